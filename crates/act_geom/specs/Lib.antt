@@ -1,0 +1,4 @@
+pub mod Rings
+pub mod Laid
+pub mod Edges
+pub mod Inside
