@@ -15,10 +15,13 @@ mod failed;
 mod gate;
 mod memory_sink;
 mod memory_source;
+mod pieces;
 mod sink;
 mod source;
-mod standard;
-mod sure;
+mod std_sink;
+mod std_source;
+mod sure_sink;
+mod sure_source;
 
 pub use failed::Failed;
 pub use gate::{Gate, NoGate, Place};
@@ -26,9 +29,10 @@ pub use memory_sink::MemSink;
 pub use memory_source::MemSource;
 pub use sink::{Sink, put_all};
 pub use source::Source;
-pub use standard::{StdSink, StdSource};
-pub use sure::{SureSink, SureSource};
-
+pub use std_sink::StdSink;
+pub use std_source::StdSource;
+pub use sure_sink::SureSink;
+pub use sure_source::SureSource;
 
 #[cfg(test)]
 mod tests;

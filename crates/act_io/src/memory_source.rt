@@ -5,7 +5,7 @@ ghost use Rattle.std.specs.Io.{ReadsAtMost};
 ghost use Rattle.std.specs.Io.KnownBytes.{ReadConsumes};
 ghost use Rattle.act_io.specs.Causes.{HasCause, counted};
 
-use crate::sure::give;
+use crate::pieces::give;
 use crate::{Failed, Source};
 use act_grid::NoMemory;
 use std::alloc::Global;

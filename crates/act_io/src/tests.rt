@@ -28,13 +28,25 @@ fn sources_give_their_bytes(rt: HostRuntime) -> Result<(), Fail> {
     let alloc = rt.alloc();
     let bytes = b"seven b".as_slice();
     let mut sure = SureSource::new(alloc, bytes)?;
-    assert_eq!(rt; three_reads(alloc, &mut sure)?.as_slice(), b"seve/n b//".as_slice());
+    assert_eq!(rt;
+        three_reads(alloc, &mut sure)?.as_slice(),
+        b"seve/n b//".as_slice()
+    );
     let mut std = StdSource::new(bytes);
-    assert_eq!(rt; three_reads(alloc, &mut std)?.as_slice(), b"seve/n b//".as_slice());
+    assert_eq!(rt;
+        three_reads(alloc, &mut std)?.as_slice(),
+        b"seve/n b//".as_slice()
+    );
     let mut pieces = MemSource::new(alloc, bytes, 3, [].as_slice())?;
-    assert_eq!(rt; three_reads(alloc, &mut pieces)?.as_slice(), b"sev/en /b/".as_slice());
+    assert_eq!(rt;
+        three_reads(alloc, &mut pieces)?.as_slice(),
+        b"sev/en /b/".as_slice()
+    );
     let mut faulty = MemSource::new(alloc, bytes, 8, [2u64].as_slice())?;
-    assert_eq!(rt; three_reads(alloc, &mut faulty)?.as_slice(), b"seve/!/n b/".as_slice());
+    assert_eq!(rt;
+        three_reads(alloc, &mut faulty)?.as_slice(),
+        b"seve/!/n b/".as_slice()
+    );
     Ok(())
 }
 
@@ -72,16 +84,13 @@ fn other_sinks_take_a_text(rt: HostRuntime) -> Result<(), Fail> {
 }
 
 /// Calls a gate at each place.
-fn pass<G: Gate>(gate: &G) -> u64 {
-    let mut calls = 0;
+fn pass<G: Gate>(gate: &G) {
     for place in [Place::Ready, Place::Published, Place::Bound, Place::Probed] {
-        gate.at(0, place, calls);
-        calls += 1;
+        gate.at(0, place, 1);
     }
-    calls
 }
 
 #[test]
-fn no_gate_returns(rt: HostRuntime) {
-    assert_eq!(rt; pass(&NoGate), 4);
+fn no_gate_lets_pass() {
+    pass(&NoGate);
 }
