@@ -6,7 +6,6 @@
 //!
 //! `coord` is how the layers above get coordinates: it answers the coordinate of a decimal text, or whether
 //! the text is no number or its coordinate is out of range. For example `coord(b"-12", 1)` is -120.
-//!
 #![tactic(auto)]
 
 mod memory;

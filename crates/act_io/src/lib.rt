@@ -8,7 +8,6 @@
 //! There are sources and sinks in memory for tests, which fail at chosen calls, and those over std's
 //! readers and writers. `put_all(&mut out, b"zone 7 ok\n")` writes a whole text, or a front of it
 //! and then `Failed`.
-//!
 #![tactic(auto)]
 
 mod failed;

@@ -5,7 +5,6 @@
 //!
 //! The layers above use one contract: what `read` answers is `shape_of` of the text. For example
 //! `read(alloc, b"POLYGON((0 0,1 0,1 1,0 0))", 0)` is a shape of one ring with three vertices.
-//!
 #![tactic(auto)]
 
 mod fault;

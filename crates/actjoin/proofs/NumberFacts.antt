@@ -17,7 +17,7 @@ pub none_over : (most value next : ℕ) (text : List ℕ) (i : ℕ) → i < leng
 none_over most value next text i within so_far is over =
     let parts : digits_value_after 10 value (get_or text i 0 ∷ drop (suc i) text) ≡ digits_value 10 text = rw (drop-cons text i 0 within) at so_far in
     let step : digits_value_after 10 next (drop (suc i) text) ≡ digits_value 10 text =
-        ap (λ n. digits_value_after 10 n (drop (suc i) text)) (sym is) ∙ parts in
+    ap (λ n. digits_value_after 10 n (drop (suc i) text)) (sym is) ∙ parts in
     let more : next ≤ digits_value_after 10 next (drop (suc i) text) = after_ge next (drop (suc i) text) in
     let past : most < digits_value 10 text = omega arith in
     none (nat_lt 0 (length text)) (all_ascii_digits text) (nat_le (digits_value 10 text) most) (digits_value 10 text) (lt-leb (digits_value 10 text) most past)

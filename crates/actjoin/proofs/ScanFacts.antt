@@ -16,12 +16,12 @@ module _ (byte : ℕ) (text : List ℕ) where
   place_found n found =
       let within : n < length text = found.0.high in
       position_or_len_is (λ b. b == byte) text n 0 (omega arith)
-          (λ k below. fails _ (found.0.before k (omega arith) below)) (λ h. found.1)
+      (λ k below. fails _ (found.0.before k (omega arith) below)) (λ h. found.1)
 
   pub place_none : IsFirstByte (is_byte byte) text None → position_or_len (λ b. b == byte) text ≡ length text
   place_none none =
       position_or_len_is (λ b. b == byte) text (length text) 0 (omega arith)
-          (λ k below. fails _ (none k (omega arith) below)) (λ h. absurd (omega arith))
+      (λ k below. fails _ (none k (omega arith) below)) (λ h. absurd (omega arith))
 
   pub cut_found : (n : ℕ) → IsFirstByte (is_byte byte) text (Some n) → cut_at byte text ≡ Some (take n text, drop (n + 1) text)
   cut_found n found =

@@ -13,7 +13,7 @@ use Rattle.actjoin.specs.Text.{Pair, join_from, pair_text, pairs_text, zones_at}
 pub pairs_step : (ids : List ℕ) (zones : List Zone) (points : List Point) (place : ℕ) (point : Point) → place < length points
     → pairs_text ids (join_from place zones (drop place points))
     ≡ flat_map (λ zone. pair_text (slice_index ids place) zone.key) (zones_at zones (get_or points place point))
-      ++ pairs_text ids (join_from (place + 1) zones (drop (place + 1) points))
+    ++ pairs_text ids (join_from (place + 1) zones (drop (place + 1) points))
 pairs_step ids zones points place point within =
     let one : place + 1 ≡ suc place = omega arith in
     rw (drop-cons points place point within, flat_map-append, flat_map-map, one) refl

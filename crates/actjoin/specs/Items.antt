@@ -18,7 +18,7 @@ zone_by digits key shape =
 abbrev pub point_by : ℕ → List ℕ → List ℕ → List ℕ → Option Item
 point_by digits id east north =
     option_and_then (λ i. option_and_then (λ x. option_map (λ y. item.Point i (record { x = x; y = y })) (result_ok (value_of digits north)))
-        (result_ok (value_of digits east))) (whole_of (2 ^ 64 - 1) id)
+    (result_ok (value_of digits east))) (whole_of (2 ^ 64 - 1) id)
 
 -- KEY,"WKT"
 abbrev pub zone_of : ℕ → List ℕ → Option Item
@@ -35,4 +35,4 @@ abbrev pub item_of : ℕ → List ℕ → Option Item
 item_of digits line =
     if bytes_eq line (codes "sync") then Some item.Sync
     else option_map_or (zone_of digits) (after_word (codes "zone,") line)
-        (option_map_or (point_of digits) (after_word (codes "point,") line) None)
+    (option_map_or (point_of digits) (after_word (codes "point,") line) None)

@@ -56,12 +56,7 @@ fn read_zone(alloc: Global, fields: &[u8], digits: u8) -> Result<Option<Item>, N
     make_zone(alloc, key, shape, digits)
 }
 
-fn make_zone(
-    alloc: Global,
-    key: &[u8],
-    shape: &[u8],
-    digits: u8,
-) -> Result<Option<Item>, NoMemory>
+fn make_zone(alloc: Global, key: &[u8], shape: &[u8], digits: u8) -> Result<Option<Item>, NoMemory>
     requires digits { digits ≤ 9 }
     requires short { length shape.now < 2 ^ 32 }
     ensures { IfOk result (λ item. item ≡ zone_by digits key.now shape.now) }

@@ -15,6 +15,8 @@ mod lines;
 mod reading;
 mod run;
 mod script;
+#[cfg(test)]
+mod tests;
 mod text;
 mod words;
 
@@ -22,7 +24,6 @@ use act_io::{NoGate, StdSink, StdSource};
 use run::act_main;
 use std::process::ExitCode;
 use std::{env, io};
-
 
 fn main(rt: HostRuntime) -> io::Result<ExitCode> {
     let mut words = Vec::new(rt.alloc());

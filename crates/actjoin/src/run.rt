@@ -140,7 +140,7 @@ pub fn act_main<T: Threads + Sync, S: Source, K: Sink, E: Sink, G: Gate>(
     // too long, and nothing was.
     ensures bad { (digits : ℕ) (script : List ℕ) → fits (map string_bytes words.now) ≡ Some digits → S.left input.old ≡ Some script → result ≡ 2
         → (HasBadLine digits script × GetsText digits script (stream K.written K.faults out.old out.new))
-          ⊎ (IsTooLong script × Appends (K.written out.old) (K.written out.new) []) }
+        ⊎ (IsTooLong script × Appends (K.written out.old) (K.written out.new) []) }
 
     // 3 and 4 come only where the input or the output failed in this call.
     ensures read { result ≡ 3 → Rose (S.faults input.old) (S.faults input.new) }

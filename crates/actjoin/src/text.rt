@@ -22,7 +22,13 @@ pub fn replies(alloc: Global, outcome: &Outcome) -> Result<Vec<u8>, AllocError>
         push_zones(&mut text, reading.zones())?;
     }
     if is_good && !reading.points().is_empty() {
-        push_batch(&mut text, 1, reading.zones(), reading.ids(), reading.points())?;
+        push_batch(
+            &mut text,
+            1,
+            reading.zones(),
+            reading.ids(),
+            reading.points(),
+        )?;
     }
     Ok(text)
 }

@@ -12,4 +12,4 @@ returns-then-next-from c =
     let digit : IsInRange 48 57 byte = digit_from_value byte c.if-not-is_ascii_digit.ensures.bound in
     let value = digit_value_digit byte digit in
     sym (none_over c.args.most c.loop-b.value (c.from.result * 10 + c.from-in-loop-b.result) c.args.text.now c.loop-b.b-index
-        c.loop-b-test.true c.loop-b.invariant.value (omega arith) (omega arith))
+    c.loop-b-test.true c.loop-b.invariant.value (omega arith) (omega arith))

@@ -16,6 +16,7 @@ returns-then-is_err g c =
 
 pub returns : goal.returns
 returns g c =
-    let put = put_whole _ _ _ c.put_all.result (sym c.is_err.ensures.value ∙ c.if-is_err.false) c.put_all.ensures.whole in
-    (bad_is c.args.digits c.args.script.now c.in-Ok.outcome None c.in-Ok.ensures c.in-None.is,
-        gets_text c.args.digits c.args.script.now c.in-Ok-replies.text.items c.in-Ok.outcome _ _ 0 0 c.in-Ok.ensures c.in-Ok-replies.ensures (rw c.deref.ensures.value at put))
+    let put = put_whole _ _ _ c.put_all.result (sym c.is_err.ensures.value ∙ c.if-is_err.false) c.put_all.ensures.whole in (
+      bad_is c.args.digits c.args.script.now c.in-Ok.outcome None c.in-Ok.ensures c.in-None.is,
+      gets_text c.args.digits c.args.script.now c.in-Ok-replies.text.items c.in-Ok.outcome _ _ 0 0 c.in-Ok.ensures c.in-Ok-replies.ensures (rw c.deref.ensures.value at put),
+    )

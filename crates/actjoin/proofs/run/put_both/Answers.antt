@@ -9,5 +9,5 @@ returns-then-is_err-clause-put g c =
 pub returns-clause-put : goal.returns-clause-put
 returns-clause-put g c =
     puts_second _ _ _ _ _ _ c.args.first.now c.args.second.now c.put_all.result c.put_all-2.result
-        (sym c.is_err.ensures.value ∙ c.if-is_err.false) c.put_all.ensures.whole c.put_all.ensures.cause
-        c.put_all-2.ensures.whole c.put_all-2.ensures.front c.put_all-2.ensures.cause
+    (sym c.is_err.ensures.value ∙ c.if-is_err.false) c.put_all.ensures.whole c.put_all.ensures.cause
+    c.put_all-2.ensures.whole c.put_all-2.ensures.front c.put_all-2.ensures.cause
