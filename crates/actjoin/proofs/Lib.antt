@@ -4,3 +4,4 @@ pub mod NumberFacts
 pub mod TextFacts
 pub mod PutFacts
 pub mod EndFacts
+pub mod ZoneFacts

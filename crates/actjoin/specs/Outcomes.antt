@@ -4,6 +4,7 @@ use Rattle.std.specs.Option.{option_and_then, option_map_or}
 use Rattle.actjoin.specs.Lines.{Line, lines_of}
 use Rattle.actjoin.specs.Items.{item_of}
 use Rattle.actjoin.specs.Content.{Content}
+use Rattle.actjoin.specs.Zones.{may_follow}
 use Rattle.actjoin.specs.declared.item.Item.{Item}
 use Rattle.actjoin.specs.declared.item.Item.TheVariants as item
 use Rattle.actjoin.specs.declared.script.Outcome.{Outcome}
@@ -13,9 +14,9 @@ use Rattle.actjoin.specs.declared.reading.TheConstants.{MOST_POINTS}
 abbrev pub blank : Content
 blank = record { zones = []; synced = false; ids = []; points = [] }
 
--- what is said with one more item, where it may stand there: one zone, then one sync, then points
+-- what is said with one more item, where it may stand there: zones, then one sync, then points
 abbrev pub takes : Content → Item → Option Content
-takes said (item.Zone zone) = if length said.zones == 0 && not said.synced then Some (record said { zones = said.zones ++ zone ∷ [] }) else None
+takes said (item.Zone zone) = if not said.synced && may_follow said.zones zone then Some (record said { zones = said.zones ++ zone ∷ [] }) else None
 takes said item.Sync = if said.synced then None else Some (record said { synced = true })
 takes said (item.Point id point) =
     if said.synced && nat_lt (length said.points) MOST_POINTS

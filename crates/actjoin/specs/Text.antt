@@ -5,6 +5,7 @@ use Rattle.act_grid.specs.declared.Point.{Point}
 use Rattle.act_geom.specs.Inside.{is_inside}
 use Rattle.actjoin.specs.declared.item.Zone.{Zone}
 use Rattle.actjoin.specs.declared.script.Outcome.{Outcome}
+use Rattle.actjoin.specs.Zones.{by_key}
 use Rattle.actjoin.specs.Outcomes.{outcome_of}
 
 -- a point by its place in a batch, and the key of a zone that it is inside
@@ -21,7 +22,7 @@ abbrev pub join_from : ℕ → List Zone → List Point → List Pair
 join_from place zones [] = []
 join_from place zones (p ∷ points) = map (λ zone. record { point = place; key = zone.key }) (zones_at zones p) ++ join_from (place + 1) zones points
 
--- the pairs of each point in order with each zone that it is inside
+-- the pairs of each point in order with each zone that it is inside, in the order of the zones
 abbrev pub join : List Zone → List Point → List Pair
 join zones points = join_from 0 zones points
 
@@ -35,11 +36,15 @@ pair_text id key = decimal id ++ codes "," ++ decimal key ++ codes "\n"
 abbrev pub pairs_text : List ℕ → List Pair → List ℕ
 pairs_text ids pairs = flat_map (λ pair. pair_text (slice_index ids pair.point) pair.key) pairs
 
--- the reply to a batch that is answered over the zones after the first `count` updates
-abbrev pub batch_text : ℕ → ℕ → List Zone → List ℕ → List Point → List ℕ
-batch_text number count zones ids points =
+-- the reply to a batch that is answered over these zones, `count` of which came before it
+abbrev pub reply_text : ℕ → ℕ → List Zone → List ℕ → List Point → List ℕ
+reply_text number count zones ids points =
     codes "batch " ++ decimal number ++ codes " after " ++ decimal count ++ codes " points " ++ decimal (length points) ++ codes "\n"
-    ++ pairs_text ids (join (take count zones) points)
+    ++ pairs_text ids (join zones points)
+
+-- the reply to a batch that is answered over the zones after the first `count` updates, by ascending key
+abbrev pub batch_text : ℕ → ℕ → List Zone → List ℕ → List Point → List ℕ
+batch_text number count zones ids points = reply_text number count (by_key (take count zones)) ids points
 
 -- the segment of the zones is closed by the sync or by the end of the script, that of the points by the end
 abbrev pub closes_zones : Outcome → Bool

@@ -19,6 +19,7 @@ mod script;
 mod tests;
 mod text;
 mod words;
+mod zones;
 
 use act_io::{NoGate, StdSink, StdSource};
 use run::act_main;

@@ -10,7 +10,7 @@ ghost use Rattle.actjoin.specs.declared.ended.Ended.{Ended};
 ghost use Rattle.actjoin.specs.declared.script.TheConstants.{MOST_BYTES};
 
 use crate::ended::Ended;
-use crate::script::{ReadEnd, read_all, read_script};
+use crate::script::{Outcome, ReadEnd, read_all, read_script};
 use crate::text::replies;
 use crate::words::parse_words;
 use act_io::{Failed, Gate, Sink, Source, put_all};
@@ -27,13 +27,14 @@ fn answer<K: Sink>(alloc: Global, script: &[u8], digits: u8, out: &mut K) -> End
     let Ok(outcome) = read_script(alloc, script, digits) else {
         return Ended::NoMemory;
     };
-    let Ok(text) = replies(alloc, &outcome) else {
+    let Outcome { reading, bad } = outcome;
+    let Ok(text) = replies(alloc, reading, bad) else {
         return Ended::NoMemory;
     };
     if put_all(out, &text).is_err() {
         return Ended::WriteFault;
     }
-    match outcome.bad {
+    match bad {
         Some(number) => Ended::BadLine(number),
         None => Ended::Done,
     }

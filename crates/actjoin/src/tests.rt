@@ -18,7 +18,7 @@ struct Case {
     err: &'static str,
 }
 
-static CASES: [Case; 11] = [
+static CASES: [Case; 14] = [
     Case {
         words: &WORDS,
         script: "zone,7,\"POLYGON((0 0,10 0,10 10,0 10,0 0))\"\nsync\npoint,1,0,0\npoint,2,10,0\npoint,3,0,10\npoint,4,9,9\n",
@@ -81,6 +81,27 @@ static CASES: [Case; 11] = [
         status: 2,
         out: "",
         err: "line 1: unsupported\n",
+    },
+    Case {
+        words: &WORDS,
+        script: "zone,9,\"POLYGON((10 0,20 0,20 10,10 10,10 0))\"\nzone,8,\"POLYGON((0 0,10 0,10 10,0 10,0 0))\"\nzone,7,\"POLYGON((5 0,20 0,20 10,5 10,5 0))\"\nsync\npoint,1,10,5\npoint,2,9,5\n",
+        status: 0,
+        out: "zone 9 ok\nzone 8 ok\nzone 7 ok\nbatch 1 after 3 points 2\n1,7\n1,9\n2,7\n2,8\n",
+        err: "",
+    },
+    Case {
+        words: &["join"],
+        script: "zone,1,\"POLYGON((0 0,1 0,1 1,0 1,0 0))\"\nsync\npoint,1,0,0\npoint,2,214,0\n",
+        status: 0,
+        out: "zone 1 ok\nbatch 1 after 1 points 2\n1,1\n",
+        err: "",
+    },
+    Case {
+        words: &["join", "--digits", "9"],
+        script: "sync\npoint,1,3,0\n",
+        status: 2,
+        out: "",
+        err: "line 2: unsupported\n",
     },
     Case {
         words: &["join", "--digits", "12"],
