@@ -1,0 +1,10 @@
+pub mod Lists
+pub mod Bounds
+pub mod Frames
+pub mod Reading
+pub mod Writing
+pub mod Seats
+pub mod Calls
+pub mod Sharing
+pub mod Watching
+pub mod Rising

@@ -1,0 +1,13 @@
+pub mod History
+pub mod Images
+pub mod Bounds
+pub mod Versions
+pub mod First
+pub mod Updates
+pub mod Safe
+pub mod Steps
+pub mod Asked
+pub mod Tokens
+pub mod Watched
+pub mod Law
+pub mod Rising
