@@ -1,1 +1,5 @@
 pub mod Limits
+pub mod Hull
+pub mod Cell
+pub mod Spaced
+pub mod Layers

@@ -1,0 +1,6 @@
+pub mod Blocks
+pub mod SpacedFacts
+pub mod CellFacts
+pub mod LayerFacts
+pub mod IdFacts
+pub mod CellLaws
