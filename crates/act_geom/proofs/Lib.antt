@@ -3,3 +3,7 @@ pub mod Shifted
 pub mod Passing
 pub mod Parity
 pub mod LaidFacts
+pub mod Missed
+pub mod OneEdge
+pub mod OneAnswer
+pub mod ClassFacts

@@ -2,3 +2,5 @@ pub mod Rings
 pub mod Laid
 pub mod Edges
 pub mod Inside
+pub mod Touch
+pub mod Class

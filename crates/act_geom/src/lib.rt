@@ -14,11 +14,15 @@
 //! ```
 #![tactic(auto)]
 
+mod class;
 mod edge;
+mod laws;
 mod location;
 mod shape;
 #[cfg(test)]
 mod tests;
 
+pub use class::Class;
+pub use laws::{class_answers_for_points, class_goes_down, pure_cell_has_one_answer, touching_goes_up};
 pub use location::inside;
 pub use shape::{MOST_VERTICES, PushFault, Shape};
