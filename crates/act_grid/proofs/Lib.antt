@@ -1,2 +1,8 @@
 pub mod Accumulator
 pub mod Range
+pub mod Blocks
+pub mod SpacedFacts
+pub mod CellFacts
+pub mod LayerFacts
+pub mod IdFacts
+pub mod CellLaws

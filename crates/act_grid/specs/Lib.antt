@@ -1,2 +1,6 @@
 pub mod Limits
 pub mod Number
+pub mod Hull
+pub mod Cell
+pub mod Spaced
+pub mod Layers

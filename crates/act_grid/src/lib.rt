@@ -9,12 +9,28 @@
 //!
 #![tactic(auto)]
 
+mod cell;
+#[cfg(test)]
+mod cell_tests;
+mod hull;
+mod interleave;
+mod laws;
+mod layers;
 mod memory;
 mod number;
 mod point;
 mod settings;
+mod slot;
 
+pub use cell::Cell;
+pub use hull::Hull;
+pub use laws::{
+    a_level_has_one_cell, apart_or_part, child_lies_within, children_cover, ids_differ,
+    ids_have_z_order,
+};
+pub use layers::Layers;
 pub use memory::NoMemory;
 pub use number::{NumFault, coord};
 pub use point::Point;
 pub use settings::Settings;
+pub use slot::Slot;

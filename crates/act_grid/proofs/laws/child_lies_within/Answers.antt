@@ -1,0 +1,5 @@
+use Rattle.act_grid.proofs.CellLaws.{child_within}
+use Rattle.act_grid.proofs.laws.child_lies_within.Goals as goal
+
+pub returns : goal.returns
+returns c = child_within

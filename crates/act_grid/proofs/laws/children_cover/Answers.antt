@@ -1,0 +1,5 @@
+use Rattle.act_grid.proofs.CellLaws.{some_child}
+use Rattle.act_grid.proofs.laws.children_cover.Goals as goal
+
+pub returns : goal.returns
+returns c = some_child
