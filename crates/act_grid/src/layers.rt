@@ -9,11 +9,12 @@ pub struct Layers {
 
 impl Layers {
     ghost use Rattle.std.specs.Prelude.{◌≡◌, ℕ, ◌<◌, Bool, true, false, ◌==◌, ◌||◌};
-    ghost use Rattle.act_grid.specs.Layers.{has_layer, layer_of};
+    ghost use Rattle.act_grid.specs.Layers.{all_layers, has_layer, layer_of, no_layers, with_layer};
 
     /// All layers.
     pub fn all() -> Layers
-        ensures { (n : ℕ) → n < 256 → has_layer result n ≡ true }
+        ensures set { result ≡ all_layers }
+        ensures each { (n : ℕ) → n < 256 → has_layer result n ≡ true }
     {
         Layers {
             words: [u64::MAX; 4],
@@ -22,14 +23,16 @@ impl Layers {
 
     /// No layer.
     pub fn none() -> Layers
-        ensures { (n : ℕ) → n < 256 → has_layer result n ≡ false }
+        ensures set { result ≡ no_layers }
+        ensures each { (n : ℕ) → n < 256 → has_layer result n ≡ false }
     {
         Layers { words: [0; 4] }
     }
 
     /// The set with one layer more.
     pub fn with(self, layer: u8) -> Layers
-        ensures { (n : ℕ) → n < 256 → has_layer result n ≡ (n == layer || has_layer self n) }
+        ensures set { result ≡ with_layer self layer }
+        ensures each { (n : ℕ) → n < 256 → has_layer result n ≡ (n == layer || has_layer self n) }
     {
         let mut words = self.words;
         let at = layer as usize / 64;
