@@ -19,10 +19,12 @@ mod edge;
 mod laws;
 mod location;
 mod shape;
+mod touch;
 #[cfg(test)]
 mod tests;
 
-pub use class::Class;
+pub use class::{Class, class_of};
 pub use laws::{class_answers_for_points, class_goes_down, pure_cell_has_one_answer, touching_goes_up};
 pub use location::inside;
+pub use touch::{hull_touches, touches};
 pub use shape::{MOST_VERTICES, PushFault, Shape};
