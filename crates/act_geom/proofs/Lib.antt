@@ -9,3 +9,5 @@ pub mod OneAnswer
 pub mod ClassFacts
 pub mod Corners
 pub mod BoxFacts
+pub mod WalkFacts
+pub mod BodyFacts
