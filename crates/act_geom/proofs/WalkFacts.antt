@@ -1,5 +1,5 @@
 -- One word of a walk.
-use Rattle.std.proofs.Common.{◌≡◌, ◌≢◌, ℕ, zero, suc, ◌+◌, ◌-◌, ◌<◌, ◌≤◌, refl, sym, ap, ◌∙◌, subst, arith, Bool, true, false, not, List, [], ◌∷◌, ◌++◌, length, map}
+use Rattle.std.proofs.Common.{◌≡◌, ◌≢◌, ℕ, zero, suc, ◌+◌, ◌-◌, ◌<◌, ◌≤◌, refl, sym, ap, ◌∙◌, subst, arith, Bool, true, false, not, List, [], ◌∷◌, ◌++◌, length, map, Option, Some, None, is_some}
 use Rattle.std.specs.List.{flat_map, All}
 use Rattle.std.proofs.lemmas.List.Elements.{All-head, All-tail}
 use mathlib.Core.Bool.{beq}
@@ -9,7 +9,7 @@ use Rattle.act_geom.specs.declared.walk.Phase.TheVariants.{Rings, Count, First, 
 use Rattle.act_geom.specs.Edges.{ring_edges, edges_to, edges_of}
 use Rattle.act_geom.specs.Inside.{counts, differ, is_odd_by, is_inside}
 use Rattle.act_geom.specs.Body.{vertex_word, ring_words, body_of}
-use Rattle.act_geom.specs.Walk.{Coming, Gives, Expects}
+use Rattle.act_geom.specs.Walk.{Coming, Gives, Expects, Answers}
 use Rattle.act_geom.specs.Walk.Expects.{AtRings, AtCount, AtFirst, AtNext}
 use Rattle.act_geom.proofs.Parity.{odd_append}
 
@@ -159,3 +159,27 @@ body_ended w word m to counted closing words answer p (AtFirst e _ _ _ _ _ _) s 
 body_ended w word m to counted closing words answer p (AtNext e vs rings coming n one g) s h k r =
     let l = last_at w word m to counted closing words answer vs rings coming n one g s h k in
     no_rings words _ answer w.point rings (coming.count ∙ r) l.0 l.1
+
+-- ---- a whole body
+
+pub answered : (r : Option Bool) (w : Walk) (words : List ℕ) (answer : Bool) → Answers r w words answer → is_some r ≡ true → r ≡ Some answer
+answered (Some b) w words answer a e = ap (λ (v : Bool). Some v) a.1
+answered None w words answer a e = absurd (cc)
+
+pub going_on : (r : Option Bool) (w : Walk) (words : List ℕ) (answer : Bool) → Answers r w words answer → is_some r ≡ false → Expects w words answer
+going_on (Some b) w words answer a e = absurd (cc)
+going_on None w words answer a e = a.1
+
+some_words : (w : Walk) (rings : List (List Point)) → 1 ≤ w.rings → Coming [] rings w.rings [] → ⊥
+some_words w [] h c = omega (arith, c.count)
+some_words w (r ∷ rs) h c = no_nil c.spelled refl
+
+more_words : (vertices : List Point) (rings : List (List Point)) (r : ℕ) → 1 ≤ length vertices → Coming vertices rings r [] → ⊥
+more_words [] rings r h c = omega (arith, h)
+more_words (v ∷ vs) rings r h c = no_nil c.spelled refl
+
+pub not_at_end : (w : Walk) (answer : Bool) → Expects w [] answer → ⊥
+not_at_end w answer (AtRings e rings full spelled a) = no_nil spelled refl
+not_at_end w answer (AtCount e rings coming one a) = some_words w rings one coming
+not_at_end w answer (AtFirst e ring rings coming n three a) = more_words ring rings w.rings (omega (arith, three)) coming
+not_at_end w answer (AtNext e vs rings coming n one a) = more_words vs rings w.rings one coming

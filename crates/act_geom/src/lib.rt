@@ -30,5 +30,5 @@ pub use class::{Class, class_of};
 pub use laws::{class_answers_for_points, class_goes_down, pure_cell_has_one_answer, touching_goes_up};
 pub use location::inside;
 pub use touch::{hull_touches, touches};
-pub use walk::Walk;
+pub use walk::{Walk, inside_body};
 pub use shape::{MOST_VERTICES, PushFault, Shape};

@@ -1,5 +1,10 @@
 //! A walk over the words of a body.
 
+ghost use Rattle.std.specs.Prelude.{◌≡◌, ◌≤◌, List, length, All};
+ghost use Rattle.act_grid.specs.declared.Point.{Point};
+ghost use Rattle.act_geom.specs.Inside.{is_inside};
+ghost use Rattle.act_geom.specs.Body.{body_of};
+
 use crate::body::vertex;
 use crate::edge::edge_counts;
 use act_grid::Point;
@@ -129,4 +134,19 @@ impl Walk {
         self.phase = Phase::Count;
         None
     }
+}
+
+/// Whether the point is inside the shape whose body the words are. On other words the answer means
+/// nothing.
+pub fn inside_body(words: &[u64], p: Point) -> Option<bool>
+    ensures { (rings : List (List Point)) → All (λ ring. 3 ≤ length ring) rings → words.now ≡ body_of rings → result ≡ Some (is_inside rings p) }
+{
+    let mut walk = Walk::start(p);
+    for word in words {
+        let answer = walk.feed(*word);
+        if answer.is_some() {
+            return answer;
+        }
+    }
+    None
 }
