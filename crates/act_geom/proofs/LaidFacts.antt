@@ -2,7 +2,7 @@
 use Rattle.std.proofs.Common.{◌≡◌, ℕ, ◌+◌, ◌-◌, ◌*◌, ◌<◌, ◌≤◌, suc, zero, List, [], ◌∷◌, ◌++◌, length, take, drop, get_or, Some, refl, sym, ap, ◌∙◌, subst, arith, length-append, length-drop}
 use Rattle.std.proofs.lemmas.List.{drop_at, take_all, take-append-le, drop-append-le, length-take-le, get_or_read}
 use Rattle.std.proofs.lemmas.List.Sums.{sum_by-cons}
-use Rattle.std.proofs.lemmas.List.Elements.{All-nil, All-cons}
+use Rattle.std.proofs.lemmas.List.Elements.{All-nil, All-cons, All-head, All-tail}
 use Rattle.std.specs.List.{slice_range, slice_get, All}
 use Rattle.act_grid.specs.declared.Point.{Point}
 use Rattle.act_geom.specs.Rings.{vertices_of, IsShape}
@@ -17,7 +17,7 @@ pub rings_are : (start : ℕ) (ends : List ℕ) (points : List Point) → length
 rings_are start [] points = refl
 rings_are start (end ∷ ends) points = ap suc (rings_are end ends points)
 
-length_of : (start end : ℕ) (points : List Point) → start ≤ end → end ≤ length points → length (slice_range points start end) + start ≡ end
+pub length_of : (start end : ℕ) (points : List Point) → start ≤ end → end ≤ length points → length (slice_range points start end) + start ≡ end
 length_of start end points h k =
     let e : length (take (end - start) (drop start points)) ≡ end - start = length-take-le (end - start) (drop start points) (omega (arith, length-drop start points)) in
     omega (arith, e)
@@ -138,3 +138,12 @@ ring_is ends points rings k start end e h l =
 
 pub ring_is_full : (ends : List ℕ) (points : List Point) (k start end : ℕ) → LiesAt ends points k start end → 3 ≤ length (slice_range points start end)
 ring_is_full ends points k start end l = omega (arith, length_of start end points (omega (arith, l.three)) l.within, l.three)
+
+-- a shape has fewer rings than vertices
+pub rings_few : (rings : List (List Point)) → IsShape rings → 3 * length rings ≤ vertices_of rings
+rings_few rings h = each rings h.full
+  where
+    each : (rings : List (List Point)) → All (λ (r : List Point). 3 ≤ length r) rings → 3 * length rings ≤ vertices_of rings
+    each [] f = omega arith
+    each (r ∷ rs) f =
+        omega (arith, sum_by-cons (λ (x : List Point). length x) r rs, All-head (λ (x : List Point). 3 ≤ length x) r rs f, each rs (All-tail (λ (x : List Point). 3 ≤ length x) r rs f))

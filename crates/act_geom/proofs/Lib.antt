@@ -7,3 +7,7 @@ pub mod Missed
 pub mod OneEdge
 pub mod OneAnswer
 pub mod ClassFacts
+pub mod Corners
+pub mod BoxFacts
+pub mod WalkFacts
+pub mod BodyFacts

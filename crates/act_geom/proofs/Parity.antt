@@ -1,10 +1,11 @@
 -- How many items pass: odd or even.
-use Rattle.std.proofs.Common.{◌≡◌, ℕ, ◌+◌, refl, sym, ap, ◌∙◌, arith, Bool, List, [], ◌∷◌, ◌++◌, drop, Some}
+use Rattle.std.proofs.Common.{◌≡◌, ℕ, ◌+◌, refl, sym, ap, ◌∙◌, arith, Bool, List, [], ◌∷◌, ◌++◌, drop, Some, ◌||◌}
 use Rattle.std.proofs.lemmas.List.{drop_more}
 use Rattle.std.proofs.lemmas.Option.{slice_get_within, get_or_from_slice_get}
-use Rattle.std.specs.List.{slice_get}
+use Rattle.std.proofs.lemmas.List.Folds.{list_any-append}
+use Rattle.std.specs.List.{slice_get, list_any}
 use Rattle.act_grid.specs.declared.Point.{Point}
-use Rattle.act_geom.specs.Edges.{ring_edges, edges_of}
+use Rattle.act_geom.specs.Edges.{Edge, ring_edges, edges_of}
 use Rattle.act_geom.specs.Inside.{counts, differ, is_odd_by, is_inside}
 
 pub regroup : (a b c : Bool) → differ a (differ b c) ≡ differ (differ a b) c
@@ -28,3 +29,9 @@ odd_more p rings k ring odd now g h e =
     ∙ ap (differ odd) (sym (odd_append (counts p) (ring_edges ring) (edges_of (drop (k + 1) rings))))
     ∙ ap (λ (rs : List (List Point)). differ odd (is_odd_by (counts p) (edges_of rs))) (sym (drop_at_get rings k ring g))
     ∙ h
+
+-- an edge of one more ring passes, or one of the rings after it
+pub any_more : (f : Edge → Bool) (rings : List (List Point)) (k : ℕ) (ring : List Point) → slice_get rings k ≡ Some ring
+    → list_any f (edges_of (drop k rings)) ≡ (list_any f (ring_edges ring) || list_any f (edges_of (drop (k + 1) rings)))
+any_more f rings k ring g =
+    ap (λ (rs : List (List Point)). list_any f (edges_of rs)) (drop_at_get rings k ring g) ∙ list_any-append f (ring_edges ring) (edges_of (drop (k + 1) rings))

@@ -4,3 +4,5 @@ pub mod Edges
 pub mod Inside
 pub mod Touch
 pub mod Class
+pub mod Body
+pub mod Walk

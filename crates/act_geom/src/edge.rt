@@ -45,9 +45,9 @@ fn passes_right(low: Point, high: Point, p: Point) -> bool
     }
 }
 
-// How far `to` is above `from`.
+/// How far `to` is above `from`.
 #[inline]
-fn span(from: i32, to: i32) -> u64
+pub(crate) fn span(from: i32, to: i32) -> u64
     requires { from ≤ℤ to }
     ensures value { pos result ≡ to -ℤ from }
     ensures small { result < 2 ^ 32 }

@@ -14,15 +14,21 @@
 //! ```
 #![tactic(auto)]
 
+mod body;
 mod class;
 mod edge;
 mod laws;
 mod location;
 mod shape;
+mod touch;
+mod walk;
 #[cfg(test)]
 mod tests;
 
-pub use class::Class;
+pub use body::{body_len, body_word};
+pub use class::{Class, class_of};
 pub use laws::{class_answers_for_points, class_goes_down, pure_cell_has_one_answer, touching_goes_up};
 pub use location::inside;
+pub use touch::{hull_touches, touches};
+pub use walk::{Walk, inside_body};
 pub use shape::{MOST_VERTICES, PushFault, Shape};

@@ -47,7 +47,7 @@ impl Model for Shape {
 }
 
 impl Shape {
-    ghost use Rattle.std.specs.Prelude.{◌≡◌, ◌+◌, ◌<◌, ◌≤◌, ◌↔◌, [], ◌∷◌, ◌++◌, length, OnOk, OnErr, IfOk, slice_get};
+    ghost use Rattle.std.specs.Prelude.{◌≡◌, ◌+◌, ◌<◌, ◌≤◌, ◌↔◌, [], ◌∷◌, ◌++◌, length, take, OnOk, OnErr, IfOk, slice_get};
     ghost use Rattle.act_geom.specs.Rings.{vertices_of, IsShape};
 
     /// A shape without rings. It contains no point.
@@ -113,6 +113,14 @@ impl Shape {
         part(&self.points, start, end)
     }
 
+    /// How many vertices the rings before the k-th have together. It takes constant time.
+    pub(crate) fn vertices_before(&self, k: u32) -> u32
+        requires { k ≤ length self.now }
+        ensures { result ≡ vertices_of (take k self.now) }
+    {
+        begin(&self.ends, k as usize) as u32
+    }
+
     /// A copy in memory of its own.
     pub fn try_clone(&self) -> Result<Shape, NoMemory>
         ensures { IfOk result (λ copy. copy ≡ self.now) }
@@ -125,7 +133,7 @@ impl Shape {
 
 // Where the k-th ring begins, among rings with these ends.
 fn begin(ends: &[u32], k: usize) -> usize
-    requires { k < length ends.now }
+    requires { k ≤ length ends.now }
     ensures { result ≡ begin_of 0 ends.now k }
 {
     if k == 0 { 0 } else { ends[k - 1] as usize }
