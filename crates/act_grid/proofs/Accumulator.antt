@@ -1,6 +1,6 @@
 -- Reading digits into a number that stops at a cap.
-use Rattle.std.proofs.Common.{inl, inr, lit<, ◌&&◌, ◌≤◌, ◌≡◌, ℕ, ◌+◌, ◌-◌, ◌*◌, ◌^◌, ◌<◌, List, [], ◌∷◌, true, false, min, refl, ap, sym, ◌∙◌, arith, length, drop, get_or, drop-cons, add-one}
-use Rattle.std.proofs.Math.Nat.{one-le-pow, mul-le-mul_left, mul-le-mul_right}
+use Rattle.std.proofs.Common.{inl, inr, lit<, ◌≤◌, ◌≡◌, ℕ, ◌+◌, ◌-◌, ◌*◌, ◌^◌, ◌<◌, suc, zero, List, [], ◌∷◌, true, min, refl, ap, sym, ◌∙◌, arith, length, drop, get_or, drop-cons, add-one}
+use Rattle.std.proofs.Math.Nat.{one-le-pow, pow-suc, mul-le-mul_left, mul-le-mul_right}
 use Rattle.std.proofs.lemmas.Bool.{cases_lt}
 use Rattle.std.proofs.lemmas.Str.{digit_value_digit}
 use Rattle.std.proofs.lemmas.Str.Parse.{tells_all_ascii_digits}
@@ -37,18 +37,6 @@ value_step text i n limit total h digit e =
     ∙ ap (λ l. min (digits_value_after 10 n l) limit) (sym cell)
     ∙ e
 
--- where a byte that is no digit stands, the rest isn't digits alone
-pub digits_stop : (text : List ℕ) (i : ℕ) → i < length text → is_ascii_digit (get_or text i 0) ≡ false → all_ascii_digits (drop i text) ≡ false
-digits_stop text i h stops =
-    let cell : drop i text ≡ get_or text i 0 ∷ drop (i + 1) text = rw (add-one) (drop-cons text i 0 h) in
-    ap all_ascii_digits cell ∙ ap (λ b. b && all_ascii_digits (drop (i + 1) text)) stops
-
--- behind a digit the rest is digits alone exactly where what stands behind is
-pub digits_go : (text : List ℕ) (i : ℕ) → i < length text → is_ascii_digit (get_or text i 0) ≡ true → all_ascii_digits (drop (i + 1) text) ≡ all_ascii_digits (drop i text)
-digits_go text i h digit =
-    let cell : drop i text ≡ get_or text i 0 ∷ drop (i + 1) text = rw (add-one) (drop-cons text i 0 h) in
-    sym (ap all_ascii_digits cell ∙ ap (λ b. b && all_ascii_digits (drop (i + 1) text)) digit)
-
 -- a cap on a factor changes nothing below the cap
 pub capped_product : (n factor limit : ℕ) → 0 < factor → min (min n limit * factor) limit ≡ min (n * factor) limit
 capped_product n factor limit some =
@@ -63,3 +51,11 @@ capped_product n factor limit some =
 
 pub capped_power : (n digits limit : ℕ) → min (min n limit * 10 ^ digits) limit ≡ min (n * 10 ^ digits) limit
 capped_power n digits limit = capped_product n (10 ^ digits) limit (one-le-pow digits 10 (lit< tt))
+
+-- one power of ten
+pub tenfold : (n power limit : ℕ) → 0 < power → min (min (n * 10) limit * 10 ^ (power - 1)) limit ≡ min (n * 10 ^ power) limit
+tenfold n zero limit some = absurd (omega arith)
+tenfold n (suc k) limit some =
+    let less : suc k - 1 ≡ k = omega arith in
+    let regroup : n * 10 * 10 ^ k ≡ n * 10 ^ suc k = omega (arith, ap (λ p. n * p) (pow-suc 10 k)) in
+    ap (λ j. min (min (n * 10) limit * 10 ^ j) limit) less ∙ capped_power (n * 10) k limit ∙ ap (λ v. min v limit) regroup

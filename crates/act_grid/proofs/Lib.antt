@@ -1,4 +1,7 @@
 pub mod Accumulator
+pub mod Cut
+pub mod Digits
+pub mod Raised
 pub mod Range
 pub mod Blocks
 pub mod SpacedFacts

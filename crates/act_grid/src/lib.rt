@@ -5,7 +5,7 @@
 //! 10^-digits degrees, so that 7 digits are about a centimetre.
 //!
 //! `coord` is how the layers above get coordinates: it answers the coordinate of a decimal text, or whether
-//! the text is no number or its coordinate is out of range. For example `coord(b"-12", 1)` is -120.
+//! the text is no number or its coordinate is out of range. For example `coord(b"-1.25", 1)` is -13.
 //!
 #![tactic(auto)]
 

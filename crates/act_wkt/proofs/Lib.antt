@@ -1,3 +1,4 @@
-pub mod Refusals
-pub mod Rings
+pub mod Joined
+pub mod Points
 pub mod Runs
+pub mod Stopped

@@ -1,20 +1,49 @@
--- What a reader answers, against what the text says.
-use Rattle.std.specs.Prelude.{◌≡◌, Option, Some, None, Result, Ok, Err}
+-- What is found in a text, and what a reader answers about it.
+use Rattle.std.specs.Prelude.{◌≡◌, ◌++◌, ℕ, List, Result, Ok, Err}
+use Rattle.act_grid.specs.declared.Point.{Point}
+use Rattle.act_wkt.specs.declared.fault.Miss.{Miss}
+use Rattle.act_wkt.specs.declared.fault.Stop.{Stop}
+use Rattle.act_wkt.specs.declared.fault.Stop.TheVariants as stop
+use Rattle.act_wkt.specs.declared.fault.WktKind.{WktKind}
 use Rattle.act_wkt.specs.declared.fault.WktFault.{WktFault}
 use Rattle.act_wkt.specs.declared.fault.WktFault.TheVariants as fault
 
--- the next step, where there is a value
-infixl 10 ◌>>=◌
-abbrev pub ◌>>=◌ : {A B : Type 0} → Option A → (A → Option B) → Option B
-None >>= f = None
-(Some x) >>= f = f x
+abbrev pub Rings : Type 0
+Rings = List (List Point)
 
--- nothing is read only where the text has no such part, or memory ran out
-abbrev pub Refuses : {Y : Type 0} → WktFault → Option Y → Type 0
-Refuses fault.Unbuilt read = read ≡ None
-Refuses fault.NoMemory read = Unit {0}
+-- rings, how many points may still come in the text, and the text behind
+pub record Found : Type 0 where
+  pub rings : Rings
+  pub room : ℕ
+  pub rest : List ℕ
+
+-- the next step, where there is no fault yet
+infixl 10 ◌>>=◌
+abbrev pub ◌>>=◌ : {F A B : Type 0} → Result A F → (A → Result B F) → Result B F
+(Ok x) >>= f = f x
+(Err e) >>= f = Err e
+
+-- these rings, and then those that were found
+abbrev pub with_front : Rings → Result Found Miss → Result Found Miss
+with_front front read = read >>= λ found. Ok (record { rings = front ++ found.rings; room = found.room; rest = found.rest })
+
+-- what stopped a reader is the fault that the text has, or want of memory
+abbrev pub Stops : {Y : Type 0} → Stop → Result Y Miss → Type 0
+Stops stop.NoMemory said = Unit {0}
+Stops (stop.At miss) said = said ≡ Err miss
 
 -- what a reader answers, seen by view, is what the text says
-abbrev pub Gives : {X Y : Type 0} → (X → Y) → Result X WktFault → Option Y → Type 0
-Gives view (Ok x) read = read ≡ Some (view x)
-Gives view (Err e) read = Refuses e read
+abbrev pub Gives : {X Y : Type 0} → (X → Y) → Result X Stop → Result Y Miss → Type 0
+Gives view (Ok x) said = said ≡ Ok (view x)
+Gives view (Err e) said = Stops e said
+
+-- a fault of a text: its kind, and the place of the byte where it lies
+pub record Fault : Type 0 where
+  pub kind : WktKind
+  pub place : ℕ
+
+-- the answer about a text is its rings or its fault, or memory ran out
+abbrev pub Answers : Result Rings WktFault → Result Rings Fault → Type 0
+Answers (Ok rings) said = said ≡ Ok rings
+Answers (Err (fault.At kind place)) said = said ≡ Err (record { kind = kind; place = place })
+Answers (Err fault.NoMemory) said = Unit {0}

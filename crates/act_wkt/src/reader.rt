@@ -1,89 +1,85 @@
 //! The shape of a text.
 
-ghost use Rattle.std.specs.Prelude.{◌≡◌, ◌≤◌, ◌<◌, ◌^◌, ◌+◌, ◌++◌, ◌∷◌, [], ◌==◌, IfOk, OnOk, OnErr, length, option_copied, slice_index};
-ghost use Rattle.act_geom.specs.Rings.{vertices_of};
-ghost use Rattle.act_wkt.specs.Reading.{Gives};
-ghost use Rattle.act_wkt.specs.Wkt.{shape_of, closes, ring_end};
+ghost use Rattle.std.specs.Prelude.{◌≡◌, ◌≤◌, ◌<◌, ◌^◌, [], length};
+ghost use Rattle.act_wkt.specs.Reading.{Answers, Found, Gives, with_front};
+ghost use Rattle.act_wkt.specs.Wkt.{body_at, rings_of, wkt_of};
 
-use crate::fault::WktFault;
-use crate::number::{point_of, rest_behind};
-use act_geom::{PushFault, Shape};
+use crate::fault::{Stop, WktFault, WktKind};
+use crate::rings::{read_polygon, read_polygons};
+use crate::token::{Class, skipped, split_run};
+use crate::words::{Geometry, is_dimension_word, named_geometry};
+use act_geom::Shape;
 use act_grid::Point;
 use std::alloc::Global;
 
 /// The points that a text may have, closing ones counted.
-pub const MOST_POINTS: u32 = 262_144;
+const MOST_POINTS: u32 = 262_144;
 
-/// The shape of a text, in one pass.
+/// The shape of a text, or its first fault. Coordinates are in grid units, degrees times 10^`digits`.
 ///
-/// The text is `POLYGON(`, rings joined by `,`, and `)`. A ring is `(`, at least four points joined by `,`, and `)`;
-/// its last point is its first one again, and isn't kept. A point is two numbers with one space between.
+/// The text is read once. Memory is taken for the shape, and for the points of its longest ring.
 pub fn read(alloc: Global, text: &[u8], digits: u8) -> Result<Shape, WktFault>
     requires digits { digits ≤ 9 }
     requires length { length text.now < 2 ^ 32 }
-    ensures ok { IfOk result (λ shape. shape_of digits text.now ≡ Some shape) }
-    ensures unbuilt { result ≡ Err WktFault.Unbuilt → shape_of digits text.now ≡ None }
+    ensures { Answers result (wkt_of digits text.now) }
 {
-    let mut rest = rest_behind(b"POLYGON((", text)?;
     let mut shape = Shape::new(alloc);
-    let mut ring: Vec<Point> = Vec::new(alloc);
-    let mut room = MOST_POINTS;
-    while room > 0 {
-        room -= 1;
-        let (point, after) = point_of(rest, digits)?;
-        if has_comma(after) {
-            ring.push(point)?;
-            rest = &after[1..];
-        } else if is_closing(&ring, point) {
-            let next = after_ring(after)?;
-            add(&mut shape, &ring)?;
-            let Some(next) = next else {
-                return Ok(shape);
-            };
-            ring.clear();
-            rest = next;
-        } else {
-            return Err(WktFault::Unbuilt);
-        }
+    let mut points = Vec::new(alloc);
+    match read_whole(text, digits, &mut points, &mut shape) {
+        Ok(()) => Ok(shape),
+        Err(Stop::At(miss)) => Err(WktFault::At {
+            kind: miss.kind,
+            place: text.len().saturating_sub(miss.left) as u32,
+        }),
+        Err(Stop::NoMemory) => Err(WktFault::NoMemory),
     }
-    Err(WktFault::Unbuilt)
 }
 
-/// Whether a comma stands first.
-fn has_comma(text: &[u8]) -> bool
-    ensures { result ≡ (slice_index text.now 0 == 44) }
+/// Adds the rings of the text to the shape.
+#[tactic(auto, unfolding(crate::specs::Wkt::rings_of))]
+fn read_whole(
+    text: &[u8],
+    digits: u8,
+    points: &mut Vec<Point>,
+    shape: &mut Shape,
+) -> Result<(), Stop>
+    requires digits { digits ≤ 9 }
+    requires empty { shape.old ≡ [] }
+    ensures { Gives (λ _. shape.new) result (rings_of digits text.now) }
 {
-    !text.is_empty() && text[0] == b','
-}
-
-/// Whether the point closes the ring of these vertices.
-fn is_closing(ring: &[Point], point: Point) -> bool
-    ensures { result ≡ closes ring.now point }
-{
-    ring.len() >= 3 && ring[0] == point
-}
-
-/// The text of the next ring, or None at the end of the last one.
-#[tactic(auto, unfolding(crate::specs::Wkt::ring_end))]
-fn after_ring(text: &[u8]) -> Result<Option<&[u8]>, WktFault>
-    ensures { Gives (λ next. option_copied next) result (ring_end text.now) }
-{
-    if text == b"))".as_slice() {
-        return Ok(None);
+    let start = skipped(text);
+    let (word, rest) = split_run(Class::Letter, start);
+    let geometry = match named_geometry(word) {
+        Ok(geometry) => geometry,
+        Err(kind) => return Err(Stop::at(kind, start)),
+    };
+    let body = skipped(rest);
+    let (word, _) = split_run(Class::Letter, body);
+    if is_dimension_word(word) {
+        return Err(Stop::at(WktKind::Dimension, body));
     }
-    Ok(Some(rest_behind(b"),(", text)?))
+    let (_, behind) = read_body(geometry, body, digits, points, shape)?;
+    let end = skipped(behind);
+    if !end.is_empty() {
+        return Err(Stop::at(WktKind::Trailing, end));
+    }
+    Ok(())
 }
 
-/// Adds the ring. The shape has room for it.
-fn add(shape: &mut Shape, ring: &[Point]) -> Result<(), WktFault>
-    requires full { 3 ≤ length ring.now }
-    requires room { vertices_of shape.old + length ring.now ≤ 262144 }
-    ensures ok { OnOk result (shape.new ≡ shape.old ++ ring.now ∷ []) }
-    ensures err { OnErr result (result ≡ Err WktFault.NoMemory) }
+/// Adds the rings that follow the first word to the shape, and answers the text behind them.
+fn read_body<'a>(
+    geometry: Geometry,
+    text: &'a [u8],
+    digits: u8,
+    points: &mut Vec<Point>,
+    shape: &mut Shape,
+) -> Result<(u32, &'a [u8]), Stop>
+    requires digits { digits ≤ 9 }
+    requires empty { shape.old ≡ [] }
+    ensures { Gives (λ found. record { rings = shape.new; room = found.0; rest = found.1.now }) result (body_at digits geometry 262144 text.now) }
 {
-    match shape.push_ring(ring) {
-        Ok(()) => Ok(()),
-        Err(PushFault::NoMemory) => Err(WktFault::NoMemory),
-        Err(_) => unreachable!(),
+    match geometry {
+        Geometry::Polygon => read_polygon(text, digits, MOST_POINTS, points, shape),
+        Geometry::Multi => read_polygons(text, digits, MOST_POINTS, points, shape),
     }
 }
