@@ -1,0 +1,24 @@
+use Rattle.std.proofs.Common.{◌≡◌, ◌∙◌, ap, sym, arith, length, ◌<◌, ◌≤◌, ℕ, get_or, true, false, [], inr, refl}
+use Rattle.act_super.specs.States.{Plain, IsFor, has_key}
+use Rattle.act_super.specs.Places.{zones_with}
+use Rattle.act_super.specs.declared.entry.Zone.{Zone}
+use Rattle.act_super.proofs.Keyed.{has_found, has_free}
+use Rattle.act_super.proofs.state.Super.prepare_drop.Goals as goal
+
+pub returns-in_default-clause-err : goal.returns-in_default-clause-err
+returns-in_default-clause-err c =
+    let zones : c.args.self.now.state.zones ≡ zones_with c.self.inside.keys.items c.self.inside.shapes.items = ap (λ (p : Plain). p.state.zones) (sym c.self.view_is) in
+    let place : (c.in_default.field-0 ≤ length c.self.inside.keys.items) × ((k : ℕ) → k < c.in_default.field-0 → get_or c.self.inside.keys.items k 0 < c.args.key)
+    × ((k : ℕ) → c.in_default.field-0 ≤ k → k < length c.self.inside.keys.items → c.args.key < get_or c.self.inside.keys.items k 0) =
+    rw c.deref.ensures.value at c.in_default.ensures in
+    let missing : has_key c.args.key c.args.self.now.state.zones ≡ false =
+    rw zones (has_free c.args.key c.self.inside.keys.items c.self.inside.shapes.items _ place.1 place.2) in
+    inr (rw missing refl)
+
+pub returns-clause-ok : goal.returns-clause-ok
+returns-clause-ok c =
+    let zones : c.args.self.now.state.zones ≡ zones_with c.self.inside.keys.items c.self.inside.shapes.items = ap (λ (p : Plain). p.state.zones) (sym c.self.view_is) in
+    let place : (c.in-Ok.field-0 < length c.self.inside.keys.items) × (get_or c.self.inside.keys.items c.in-Ok.field-0 0 ≡ c.args.key) = rw c.deref.ensures.value at c.in-Ok.ensures in
+    let found : has_key c.args.key c.args.self.now.state.zones ≡ true =
+    rw zones (has_found c.args.key c.self.inside.keys.items c.self.inside.shapes.items c.in-Ok.field-0 c.self.invariant.0 place.0 place.1) in
+    (refl, record { accepted = rw found refl }, omega arith)

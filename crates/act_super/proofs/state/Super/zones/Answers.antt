@@ -1,0 +1,12 @@
+use Rattle.std.proofs.Common.{◌≡◌, ◌∙◌, ap, sym, arith, length}
+use Rattle.act_super.specs.States.{Plain}
+use Rattle.act_super.specs.Places.{zones_with}
+use Rattle.act_super.specs.declared.entry.Zone.{Zone}
+use Rattle.act_super.proofs.Keyed.{length-zones}
+use Rattle.act_super.proofs.state.Super.zones.Goals as goal
+
+pub returns : goal.returns
+returns c =
+    let zones : c.args.self.now.state.zones ≡ zones_with c.self.inside.keys.items c.self.inside.shapes.items = ap (λ (p : Plain). p.state.zones) (sym c.self.view_is) in
+    let count = length-zones c.self.inside.keys.items c.self.inside.shapes.items c.self.invariant.0 in
+    rw zones (omega (arith, c.len.ensures, count))

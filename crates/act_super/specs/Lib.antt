@@ -1,0 +1,6 @@
+pub mod Shapes
+pub mod Places
+pub mod States
+pub mod Changes
+pub mod Histories
+pub mod Joins
