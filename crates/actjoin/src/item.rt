@@ -69,7 +69,7 @@ fn make_zone(alloc: Global, key: &[u8], shape: &[u8], digits: u8) -> Result<Opti
             key: key as u32,
             shape,
         }))),
-        Err(WktFault::Unbuilt) => Ok(None),
+        Err(WktFault::At { .. }) => Ok(None),
         Err(WktFault::NoMemory) => Err(NoMemory),
     }
 }
