@@ -19,6 +19,8 @@ mod next;
 mod same;
 mod search;
 mod state;
+#[cfg(test)]
+mod tests;
 mod verdict;
 
 pub use entry::{Entry, State, Zone};
