@@ -1,0 +1,3 @@
+pub mod RefFacts
+pub mod EntryFacts
+pub mod ListFacts
