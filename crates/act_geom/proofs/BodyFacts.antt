@@ -1,5 +1,5 @@
 -- Where the words of a body stand.
-use Rattle.std.proofs.Common.{◌≡◌, ◌≢◌, ℕ, zero, suc, ◌+◌, ◌-◌, ◌*◌, ◌<◌, ◌≤◌, refl, sym, ap, ◌∙◌, subst, arith, List, [], ◌∷◌, ◌++◌, length, map, take, drop, get_or, Some, length-append}
+use Rattle.std.proofs.Common.{◌≡◌, ◌≢◌, ℕ, zero, suc, ◌+◌, ◌-◌, ◌<◌, ◌≤◌, refl, sym, ap, ◌∙◌, subst, arith, List, [], ◌∷◌, ◌++◌, length, take, drop, get_or, Some, length-append}
 use Rattle.std.proofs.lemmas.List.{get_or_append_left, get_or-append-add, length-map, get_or-map, take_more, take_all}
 use Rattle.std.proofs.lemmas.List.Sums.{sum_by-cons, sum_by_push}
 use Rattle.std.proofs.lemmas.Option.{slice_get_within, get_or_from_slice_get, same_Some}
@@ -74,8 +74,12 @@ vertices_to start ends points zero h l = refl_of start
     refl_of n = omega arith
 vertices_to start [] points (suc k) h l = absurd (omega (arith, l))
 vertices_to start (end ∷ ends) points (suc k) h l =
-    omega (arith, sum_by-cons (λ (r : List Point). length r) (take (end - start) (drop start points)) (take k (rings_between end ends points)), vertices_to end ends points k h.1 (omega (arith, l)),
-    length_of start end points (omega (arith, h.0)) (omega (arith, ends_after end ends (length points) h.1)))
+    omega (
+      arith,
+      sum_by-cons (λ (r : List Point). length r) (take (end - start) (drop start points)) (take k (rings_between end ends points)),
+      vertices_to end ends points k h.1 (omega (arith, l)),
+      length_of start end points (omega (arith, h.0)) (omega (arith, ends_after end ends (length points) h.1)),
+    )
 
 pub vertices_before_is : (ends : List ℕ) (points : List Point) (rings : List (List Point)) (k : ℕ) → EndsFit 0 ends (length points) → rings_between 0 ends points ≡ rings → k ≤ length ends
     → begin_of 0 ends k ≡ vertices_of (take k rings)

@@ -1,10 +1,10 @@
 -- Boxes that meet, and the two tests of touching put together.
-use Rattle.std.proofs.Common.{◌≡◌, ℤ, ◌≤ℤ◌, refl, sym, ap, ◌∙◌, arith, Bool, true, false, not, ◌&&◌, ◌||◌, int_lt, cond}
+use Rattle.std.proofs.Common.{◌≡◌, ℤ, ◌≤ℤ◌, refl, arith, Bool, true, false, not, ◌&&◌, ◌||◌, int_lt}
 use Rattle.std.proofs.lemmas.Int.{ints}
-use borrow.Author.Differences.{lt-true, lt-false, le_in, le_out}
+use borrow.Author.Differences.{lt-true, lt-false, le_out}
 use Rattle.act_grid.specs.declared.Point.{Point}
 use Rattle.act_grid.specs.declared.Hull.{Hull}
-use Rattle.act_geom.specs.Touch.{box_meets, all_left, touches_hull}
+use Rattle.act_geom.specs.Touch.{box_meets}
 
 pub as_four : (w1 w2 e1 e2 s1 s2 n1 n2 : Bool)
     → not ((((w1 && w2) || (e1 && e2)) || (s1 && s2)) || (n1 && n2)) ≡ ((not (w1 && w2) && not (e1 && e2)) && (not (s1 && s2) && not (n1 && n2)))

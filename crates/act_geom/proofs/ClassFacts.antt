@@ -1,14 +1,13 @@
 -- What is Inside or Outside on a hull is so on each hull in it.
-use Rattle.std.proofs.Common.{◌≡◌, ℕ, ℤ, ◌≤ℤ◌, ◌⊎◌, inl, inr, refl, sym, ap, subst, ◌∙◌, arith, Bool, true, false, cond, ◌||◌, List, [], ◌∷◌}
+use Rattle.std.proofs.Common.{◌≡◌, refl, sym, ap, ◌∙◌, arith, Bool, true, false, cond, ◌||◌, List, [], ◌∷◌}
 use Rattle.std.proofs.lemmas.Int.{ints}
 use Rattle.std.proofs.lemmas.List.Elements.{All-nil, All-cons}
 use Rattle.std.specs.List.{All, list_any}
 use Rattle.act_grid.specs.Hull.{IsIn, IsWithin}
-use Rattle.act_geom.specs.declared.class.Class.{Class}
 use Rattle.act_geom.specs.declared.class.Class.TheVariants.{Inside, Outside, Mixed}
 use Rattle.act_geom.specs.Edges.{Edge, edges_of}
 use Rattle.act_geom.specs.Inside.{is_inside}
-use Rattle.act_geom.specs.Touch.{touches_hull, Misses}
+use Rattle.act_geom.specs.Touch.{touches_hull}
 use Rattle.act_geom.specs.Class.{class_on}
 use Rattle.act_grid.specs.declared.Point.{Point}
 use Rattle.act_grid.specs.declared.Hull.{Hull}

@@ -1,14 +1,14 @@
 -- Which corner of a box decides whether all lie on one side of a line.
-use Rattle.std.proofs.Common.{◌≡◌, ℕ, ℤ, ◌≤ℤ◌, ◌+◌, ◌*◌, ◌-◌, ◌<◌, ◌≤◌, refl, sym, ap, ◌∙◌, arith, Bool, true, false, ltb, ◌&&◌}
+use Rattle.std.proofs.Common.{◌≡◌, ℕ, ℤ, ◌≤ℤ◌, ◌+◌, ◌*◌, ◌-◌, ◌≤◌, sym, ap, ◌∙◌, arith, Bool, true, ◌&&◌}
 use Rattle.std.proofs.lemmas.Int.{ints}
 use Rattle.std.proofs.lemmas.Bool.{lt-ltb, ltb-true}
 use Rattle.std.proofs.Math.Nat.{mul-le-mul_left}
-use borrow.Author.Differences.{up, down, le_out}
+use borrow.Author.Differences.{down, le_out}
 use Rattle.act_grid.specs.declared.Point.{Point}
 use Rattle.act_grid.specs.declared.Hull.{Hull}
 use Rattle.act_geom.specs.Inside.{is_left}
 use Rattle.act_geom.specs.Touch.{all_left}
-use Rattle.act_geom.proofs.Lines.{Spot, gain, loss, Left}
+use Rattle.act_geom.proofs.Lines.{Spot, Left}
 use Rattle.act_geom.proofs.Shifted.{moved, spot, Fits, is_left_is}
 
 -- ---- what stays left when the point moves, over natural numbers

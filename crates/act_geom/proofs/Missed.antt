@@ -1,9 +1,8 @@
 -- An edge that doesn't touch a box, and two points of the box.
-use Rattle.std.proofs.Common.{◌≡◌, ℕ, ◌+◌, ◌*◌, ◌<◌, ◌≤◌, ◌-◌, ◌⊎◌, inl, inr, refl, sym, ap, subst, ◌∙◌, arith, Bool, true, false, ltb, cond, not, ◌&&◌, ◌||◌}
-use Rattle.std.proofs.lemmas.Bool.{lt-ltb, le-ltb, ltb-true, ltb-false}
+use Rattle.std.proofs.Common.{◌≡◌, ℕ, ◌<◌, ◌≤◌, ◌⊎◌, inl, inr, refl, arith, Bool, true, false, ltb, cond, not, ◌&&◌}
 use Rattle.std.proofs.lemmas.Bool.Decides.{nat_tests}
 use Rattle.act_geom.specs.Inside.{differ}
-use Rattle.act_geom.proofs.Lines.{Spot, gain, loss, west, east, at_first, at_first_down, at_second, at_second_down, in_box}
+use Rattle.act_geom.proofs.Lines.{Spot, gain, loss, west, east, at_first, at_first_down, at_second, at_second_down}
 
 abbrev pub count_s : Spot → Spot → Spot → Bool
 count_s p a b =

@@ -1,13 +1,12 @@
 -- A shape whose edges all miss a hull has one answer on its points.
-use Rattle.std.proofs.Common.{◌≡◌, ℕ, ℤ, ◌≤ℤ◌, ◌<ℤ◌, ◌+◌, ◌<◌, ◌≤◌, ◌⊎◌, inl, inr, refl, sym, ap, subst, ◌∙◌, arith, Bool, true, false, List, [], ◌∷◌, ◌++◌}
+use Rattle.std.proofs.Common.{◌≡◌, ℤ, ◌≤ℤ◌, ◌⊎◌, inl, inr, refl, sym, ap, ◌∙◌, arith, Bool, false, List, [], ◌∷◌}
 use Rattle.std.proofs.lemmas.Int.{ints}
-use Rattle.std.proofs.lemmas.List.Elements.{All-head, All-tail, recursion_from_All}
+use Rattle.std.proofs.lemmas.List.Elements.{All-head, All-tail}
 use Rattle.std.specs.List.{All}
-use borrow.Author.Differences.{up, down, le_in}
 use Rattle.act_grid.specs.Hull.{IsIn}
 use Rattle.act_geom.specs.Edges.{Edge, edges_to, ring_edges, edges_of}
 use Rattle.act_geom.specs.Inside.{counts, differ, is_odd_by, is_inside}
-use Rattle.act_geom.specs.Touch.{touches_hull, Misses}
+use Rattle.act_geom.specs.Touch.{Misses}
 use Rattle.act_grid.specs.declared.Point.{Point}
 use Rattle.act_grid.specs.declared.Hull.{Hull}
 use Rattle.act_geom.proofs.Parity.{odd_append}

@@ -1,13 +1,11 @@
 -- From whole numbers to natural numbers: an edge that doesn't touch a hull, and two points of it.
-use Rattle.std.proofs.Common.{◌≡◌, ℕ, ℤ, pos, negsuc, ◌+ℤ◌, ◌-ℤ◌, ◌*ℤ◌, ◌≤ℤ◌, ◌+◌, ◌*◌, ◌<◌, ◌≤◌, ◌-◌, ◌⊎◌, inl, inr, refl, sym, ap, subst, ◌∙◌, arith, Bool, true, false, ltb, int_lt, cond, not, ◌&&◌, ◌||◌}
-use Rattle.std.proofs.lemmas.Int.{ints}
-use Rattle.std.proofs.lemmas.Bool.{lt-ltb, le-ltb, ltb-true, ltb-false}
-use Rattle.std.proofs.lemmas.Bool.Decides.{nat_tests}
-use borrow.Author.Differences.{up, down, lt-true, lt-false, lt_out, le_out}
+use Rattle.std.proofs.Common.{◌≡◌, ℕ, ℤ, ◌≤ℤ◌, ◌+◌, ◌<◌, ◌≤◌, ◌⊎◌, inl, inr, refl, sym, ◌∙◌, arith, Bool, true, false, ltb, int_lt, cond, not, ◌&&◌, ◌||◌}
+use Rattle.std.proofs.lemmas.Bool.{lt-ltb, le-ltb, ltb-true}
+use borrow.Author.Differences.{down, lt-true, lt-false, le_out}
 use Rattle.act_grid.specs.Hull.{IsIn, IsWithin}
 use Rattle.act_geom.specs.Edges.{Edge}
-use Rattle.act_geom.specs.Inside.{side, is_left, is_above, counts, differ}
-use Rattle.act_geom.specs.Touch.{touches_hull, box_meets, all_left}
+use Rattle.act_geom.specs.Inside.{is_left, is_above, counts, differ}
+use Rattle.act_geom.specs.Touch.{touches_hull, all_left}
 use Rattle.act_grid.specs.declared.Point.{Point}
 use Rattle.act_grid.specs.declared.Hull.{Hull}
 use Rattle.act_geom.proofs.Lines.{Spot, gain, loss, in_box}

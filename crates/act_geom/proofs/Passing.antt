@@ -1,12 +1,12 @@
 -- The side of a line on which a point lies, by products of spans.
-use Rattle.std.proofs.Common.{◌≡◌, ℕ, ℤ, pos, negsuc, ◌-ℤ◌, ◌*ℤ◌, ◌≤ℤ◌, ◌<ℤ◌, ◌+◌, ◌*◌, ◌-◌, ◌<◌, ◌≤◌, refl, sym, ap, ◌∙◌, arith, Bool, true, false, ltb, int_lt}
+use Rattle.std.proofs.Common.{◌≡◌, ℕ, ℤ, pos, negsuc, ◌-ℤ◌, ◌*ℤ◌, ◌≤ℤ◌, ◌<ℤ◌, ◌+◌, ◌*◌, refl, sym, ap, ◌∙◌, arith, true, false, ltb, int_lt}
 use Rattle.std.proofs.lemmas.Int.{ints}
 use Rattle.std.proofs.lemmas.Bool.{lt-ltb, le-ltb, ltb-true, ltb-false}
 use borrow.Author.Differences.{up, down, lt_out, le_out, lt-true, lt-false}
 use Rattle.act_grid.specs.declared.Point.{Point}
 use Rattle.act_geom.specs.Inside.{side, is_left}
-use Rattle.act_geom.proofs.Lines.{Spot, gain, loss, west, east}
-use Rattle.act_geom.proofs.Shifted.{moved, spot, Fits, is_left_is, side_is, by_parts, same_test}
+use Rattle.act_geom.proofs.Lines.{gain, loss, west, east}
+use Rattle.act_geom.proofs.Shifted.{spot, Fits, is_left_is, side_is, by_parts, same_test}
 
 -- ---- products of two differences, as one natural number less another
 

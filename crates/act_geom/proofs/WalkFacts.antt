@@ -1,5 +1,5 @@
 -- One word of a walk.
-use Rattle.std.proofs.Common.{◌≡◌, ◌≢◌, ℕ, zero, suc, ◌+◌, ◌-◌, ◌<◌, ◌≤◌, refl, sym, ap, ◌∙◌, subst, arith, Bool, true, false, not, List, [], ◌∷◌, ◌++◌, length, map, Option, Some, None, is_some}
+use Rattle.std.proofs.Common.{◌≡◌, ◌≢◌, ℕ, ◌-◌, ◌<◌, ◌≤◌, refl, sym, ap, ◌∙◌, arith, Bool, true, false, not, List, [], ◌∷◌, length, Option, Some, None, is_some}
 use Rattle.std.specs.List.{flat_map, All}
 use Rattle.std.proofs.lemmas.List.Elements.{All-head, All-tail}
 use mathlib.Core.Bool.{beq}
@@ -7,8 +7,8 @@ use Rattle.act_grid.specs.declared.Point.{Point}
 use Rattle.act_geom.specs.declared.walk.Walk.{Walk}
 use Rattle.act_geom.specs.declared.walk.Phase.TheVariants.{Rings, Count, First, Next}
 use Rattle.act_geom.specs.Edges.{ring_edges, edges_to, edges_of}
-use Rattle.act_geom.specs.Inside.{counts, differ, is_odd_by, is_inside}
-use Rattle.act_geom.specs.Body.{vertex_word, ring_words, body_of}
+use Rattle.act_geom.specs.Inside.{counts, differ, is_odd_by}
+use Rattle.act_geom.specs.Body.{vertex_word, ring_words}
 use Rattle.act_geom.specs.Walk.{Coming, Gives, Expects, Answers}
 use Rattle.act_geom.specs.Walk.Expects.{AtRings, AtCount, AtFirst, AtNext}
 use Rattle.act_geom.proofs.Parity.{odd_append}
@@ -43,11 +43,12 @@ count_at : (w : Walk) (word m : ℕ) (words : List ℕ) (answer : Bool) (rings :
     → (words ≢ []) × Expects (record { point = w.point; phase = First; odd = w.odd; rings = m; vertices = word; first = w.first; last = w.last }) words answer
 count_at w word m words answer [] coming one a e = absurd (omega (arith, coming.count, one))
 count_at w word m words answer ([] ∷ rs) coming one a e = absurd (omega (arith, All-head IsFull [] rs coming.full))
-count_at w word m words answer ((v ∷ vs) ∷ rs) coming one a e =
-    (no_nil (same_tail coming.spelled),
-    AtFirst refl (v ∷ vs) rs (record { count = omega (arith, coming.count, e); full = All-tail IsFull (v ∷ vs) rs coming.full; spelled = same_tail coming.spelled })
-    (sym (same_head coming.spelled)) (All-head IsFull (v ∷ vs) rs coming.full)
-    (ap (differ w.odd) (sym (odd_append (counts w.point) (ring_edges (v ∷ vs)) (edges_of rs))) ∙ a))
+count_at w word m words answer ((v ∷ vs) ∷ rs) coming one a e = (
+  no_nil (same_tail coming.spelled),
+  AtFirst refl (v ∷ vs) rs (record { count = omega (arith, coming.count, e); full = All-tail IsFull (v ∷ vs) rs coming.full; spelled = same_tail coming.spelled })
+      (sym (same_head coming.spelled)) (All-head IsFull (v ∷ vs) rs coming.full)
+      (ap (differ w.odd) (sym (odd_append (counts w.point) (ring_edges (v ∷ vs)) (edges_of rs))) ∙ a),
+)
 
 pub count_taken : (w : Walk) (word m : ℕ) (words : List ℕ) (answer : Bool) → w.phase ≡ Count → Expects w (word ∷ words) answer → m ≡ w.rings - 1
     → (words ≢ []) × Expects (record { point = w.point; phase = First; odd = w.odd; rings = m; vertices = word; first = w.first; last = w.last }) words answer
@@ -65,10 +66,11 @@ first_at : (w : Walk) (word m : ℕ) (to : Point) (words : List ℕ) (answer : B
 first_at w word m to words answer [] rings coming n three a f e = absurd (omega (arith, three))
 first_at w word m to words answer (v ∷ []) rings coming n three a f e = absurd (omega (arith, three))
 first_at w word m to words answer (v ∷ (u ∷ vs)) rings coming n three a f e =
-    let same : to ≡ v = f v (sym (same_head coming.spelled)) in
-    (no_nil (same_tail coming.spelled),
-    AtNext refl (u ∷ vs) rings (record { count = coming.count; full = coming.full; spelled = same_tail coming.spelled }) (omega (arith, n, e)) (omega arith)
-    (ap (λ (z : Point). differ w.odd (differ (is_odd_by (counts w.point) (edges_to z (z ∷ (u ∷ vs)))) (is_odd_by (counts w.point) (edges_of rings)))) same ∙ a))
+    let same : to ≡ v = f v (sym (same_head coming.spelled)) in (
+      no_nil (same_tail coming.spelled),
+      AtNext refl (u ∷ vs) rings (record { count = coming.count; full = coming.full; spelled = same_tail coming.spelled }) (omega (arith, n, e)) (omega arith)
+          (ap (λ (z : Point). differ w.odd (differ (is_odd_by (counts w.point) (edges_to z (z ∷ (u ∷ vs)))) (is_odd_by (counts w.point) (edges_of rings)))) same ∙ a),
+    )
 
 pub first_taken : (w : Walk) (word m : ℕ) (to : Point) (words : List ℕ) (answer : Bool) → w.phase ≡ First → Expects w (word ∷ words) answer
     → ((v : Point) → vertex_word v ≡ word → to ≡ v) → m ≡ w.vertices - 1
@@ -102,10 +104,11 @@ next_at w word m to counted words answer (v ∷ (u ∷ vs)) rings p coming n one
     let edge : counted ≡ counts w.point (record { a = w.last; b = v }) = s.tested ∙ ap (λ (z : Point). counts w.point (record { a = w.last; b = z })) same in
     let given : differ w.odd (differ (differ counted (is_odd_by (counts w.point) (edges_to w.first (to ∷ (u ∷ vs))))) (is_odd_by (counts w.point) (edges_of rings))) ≡ answer =
     ap (λ c. differ w.odd (differ (differ c (is_odd_by (counts w.point) (edges_to w.first (to ∷ (u ∷ vs))))) (is_odd_by (counts w.point) (edges_of rings)))) edge
-    ∙ ap (λ (z : Point). differ w.odd (differ (differ (counts w.point (record { a = w.last; b = v })) (is_odd_by (counts w.point) (edges_to w.first (z ∷ (u ∷ vs))))) (is_odd_by (counts w.point) (edges_of rings)))) same ∙ g in
-    (no_nil (same_tail coming.spelled),
-    AtNext p (u ∷ vs) rings (record { count = coming.count; full = coming.full; spelled = same_tail coming.spelled }) (omega (arith, n, s.left)) (omega arith)
-    (one_edge w.odd counted (is_odd_by (counts w.point) (edges_to w.first (to ∷ (u ∷ vs)))) (is_odd_by (counts w.point) (edges_of rings)) answer given))
+    ∙ ap (λ (z : Point). differ w.odd (differ (differ (counts w.point (record { a = w.last; b = v })) (is_odd_by (counts w.point) (edges_to w.first (z ∷ (u ∷ vs))))) (is_odd_by (counts w.point) (edges_of rings)))) same ∙ g in (
+      no_nil (same_tail coming.spelled),
+      AtNext p (u ∷ vs) rings (record { count = coming.count; full = coming.full; spelled = same_tail coming.spelled }) (omega (arith, n, s.left)) (omega arith)
+          (one_edge w.odd counted (is_odd_by (counts w.point) (edges_to w.first (to ∷ (u ∷ vs)))) (is_odd_by (counts w.point) (edges_of rings)) answer given),
+    )
 
 pub next_taken : (w : Walk) (word m : ℕ) (to : Point) (counted : Bool) (words : List ℕ) (answer : Bool) → w.phase ≡ Next → Expects w (word ∷ words) answer → Step w word m to counted → 0 < m
     → (words ≢ []) × Expects (record { point = w.point; phase = w.phase; odd = not (beq w.odd counted); rings = w.rings; vertices = m; first = w.first; last = to }) words answer

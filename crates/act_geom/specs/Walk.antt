@@ -23,9 +23,9 @@ pub data Expects (w : Walk) (words : List ℕ) (answer : Bool) : Type 0 where
   AtRings : w.phase ≡ Rings → (rings : List (List Point)) → All (λ ring. 3 ≤ length ring) rings → words ≡ body_of rings → is_inside rings w.point ≡ answer → Expects w words answer
   AtCount : w.phase ≡ Count → (rings : List (List Point)) → Coming [] rings w.rings words → 1 ≤ w.rings → differ w.odd (is_odd_by (counts w.point) (edges_of rings)) ≡ answer → Expects w words answer
   AtFirst : w.phase ≡ First → (ring : List Point) (rings : List (List Point)) → Coming ring rings w.rings words → length ring ≡ w.vertices → 3 ≤ length ring
-    → differ w.odd (differ (is_odd_by (counts w.point) (ring_edges ring)) (is_odd_by (counts w.point) (edges_of rings))) ≡ answer → Expects w words answer
+      → differ w.odd (differ (is_odd_by (counts w.point) (ring_edges ring)) (is_odd_by (counts w.point) (edges_of rings))) ≡ answer → Expects w words answer
   AtNext : w.phase ≡ Next → (vertices : List Point) (rings : List (List Point)) → Coming vertices rings w.rings words → length vertices ≡ w.vertices → 1 ≤ length vertices
-    → Gives w (w.last ∷ vertices) rings answer → Expects w words answer
+      → Gives w (w.last ∷ vertices) rings answer → Expects w words answer
 
 -- the answer at the last word and not before, and else a walk that expects the words to come
 abbrev pub Answers : Option Bool → Walk → List ℕ → Bool → Type 0

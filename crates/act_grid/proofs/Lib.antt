@@ -9,3 +9,4 @@ pub mod CellFacts
 pub mod LayerFacts
 pub mod IdFacts
 pub mod CellLaws
+pub mod SlotFacts

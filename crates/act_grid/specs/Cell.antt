@@ -62,3 +62,7 @@ first_entry c node_level = c.path % 4 ^ (c.level - node_level) * 4 ^ (node_level
 
 abbrev pub entries_filled : Address → ℕ → ℕ
 entries_filled c node_level = 4 ^ (node_level + 4 - c.level)
+
+-- the cell of an entry of the node of this level above the cell
+abbrev pub entry_cell : Address → ℕ → ℕ → Address
+entry_cell c node_level entry = record { level = node_level + 4; path = c.path / 4 ^ (c.level - node_level) * 256 + entry }

@@ -1,9 +1,9 @@
 //! Laws of cells, each the contract of a function that does nothing.
 
-ghost use Rattle.std.specs.Prelude.{◌≡◌, ℕ, ◌<◌, ◌≤◌, ◌⊎◌};
+ghost use Rattle.std.specs.Prelude.{◌≡◌, ℕ, ◌+◌, ◌<◌, ◌≤◌, ◌⊎◌, ◌↔◌};
 ghost use Rattle.act_grid.specs.declared.point.Point.{Point};
 ghost use Rattle.act_grid.specs.Hull.{IsIn, IsWithin};
-ghost use Rattle.act_grid.specs.Cell.{Address, IsCell, IsPart, ComesBefore, child_of, id_of, hull_of};
+ghost use Rattle.act_grid.specs.Cell.{Address, IsCell, IsPart, ComesBefore, child_of, id_of, hull_of, first_entry, entries_filled, entry_cell};
 
 /// The grid points of a child are grid points of its parent.
 pub fn child_lies_within()
@@ -36,4 +36,9 @@ pub fn ids_have_z_order()
 /// Two cells with one id are the same.
 pub fn ids_differ()
     ensures { (c d : Address) → IsCell c → IsCell d → id_of c ≡ id_of d → c ≡ d }
+{}
+
+/// The entries of its slot are those whose cells are part of the cell.
+pub fn slot_is_its_entries()
+    ensures { (c : Address) (b entry : ℕ) → b ≤ c.level → c.level ≤ b + 4 → entry < 256 → ((first_entry c b ≤ entry) × (entry < first_entry c b + entries_filled c b)) ↔ IsPart c (entry_cell c b entry) }
 {}

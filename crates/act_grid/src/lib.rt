@@ -28,7 +28,7 @@ pub use cell::Cell;
 pub use hull::Hull;
 pub use laws::{
     a_level_has_one_cell, apart_or_part, child_lies_within, children_cover, ids_differ,
-    ids_have_z_order,
+    ids_have_z_order, slot_is_its_entries,
 };
 pub use layers::Layers;
 pub use memory::NoMemory;

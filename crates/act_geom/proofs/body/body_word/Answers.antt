@@ -1,4 +1,4 @@
-use Rattle.std.proofs.Common.{◌≡◌, ◌+◌, ap, ◌∙◌, arith}
+use Rattle.std.proofs.Common.{◌+◌, ◌∙◌, arith}
 use Rattle.act_geom.proofs.BodyFacts.{StandsIn, within_ring, count_word, vertex_at}
 use Rattle.act_geom.proofs.body.body_word.Goals as goal
 use Rattle.act_geom.proofs.body.body_word.Goals.{Else-k-start, After-word_of}

@@ -1,4 +1,4 @@
-use Rattle.std.proofs.Common.{ℕ, ◌+◌, ◌-◌, ◌<◌, ◌≤◌, length, take}
+use Rattle.std.proofs.Common.{◌+◌, ◌-◌, ◌<◌, ◌≤◌, length, take}
 use Rattle.act_geom.specs.Rings.{vertices_of}
 use Rattle.act_geom.proofs.body.ring_at.Given as goal
 

@@ -1,4 +1,4 @@
-use Rattle.std.proofs.Common.{◌≡◌, true, sym, ◌∙◌, rules, arith}
+use Rattle.std.proofs.Common.{sym, ◌∙◌, arith}
 use Rattle.act_geom.specs.Touch.{box_meets, all_left}
 use Rattle.act_geom.proofs.BoxFacts.{box_turned, both_tests}
 use Rattle.act_geom.proofs.touch.hull_touches.Goals as goal

@@ -2,7 +2,6 @@ use Rattle.std.proofs.Common.{◌≡◌, ◌≤ℤ◌, ◌∙◌, rules, arith}
 use Rattle.std.specs.Prelude.{FitsSigned}
 use Rattle.std.specs.Int.{w32}
 use Rattle.std.proofs.lemmas.Int.{to_z-of_z, ints}
-use Rattle.act_geom.specs.Inside.{is_left}
 use Rattle.act_geom.specs.Touch.{all_left}
 use Rattle.act_geom.proofs.BoxFacts.{east_of_start, north_of_start, west_of_start, first_true, second_left}
 use Rattle.act_geom.proofs.Corners.{IsBox, by_south_east, by_north_west, by_north_east, by_south_west}

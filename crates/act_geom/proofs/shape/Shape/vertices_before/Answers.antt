@@ -1,4 +1,4 @@
-use Rattle.std.proofs.Common.{◌≡◌, ◌≤◌, length, ap, ◌∙◌, arith}
+use Rattle.std.proofs.Common.{◌≡◌, length, ap, ◌∙◌, arith}
 use Rattle.act_geom.specs.Laid.{begin_of}
 use Rattle.act_geom.proofs.LaidFacts.{rings_seen}
 use Rattle.act_geom.proofs.BodyFacts.{vertices_before_is, begin_within}

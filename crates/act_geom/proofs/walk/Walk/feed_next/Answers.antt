@@ -1,5 +1,5 @@
 use Rattle.std.proofs.Common.{arith}
-use Rattle.act_geom.proofs.WalkFacts.{Step, next_taken, ring_ended}
+use Rattle.act_geom.proofs.WalkFacts.{next_taken, ring_ended}
 use Rattle.act_geom.proofs.walk.Walk.feed_next.Goals as goal
 
 pub returns-then-self-gt0 : goal.returns-then-self-gt0
