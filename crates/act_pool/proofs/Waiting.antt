@@ -5,7 +5,7 @@ use mathlib.Core.Logic.{dite}
 use native.Mathlib.Decide.{ℕ_discrete}
 use lib.Dec.{leb}
 use Rattle.act_base.specs.Counting.{times}
-use Rattle.act_base.proofs.Times.{times_else}
+use Rattle.act_base.proofs.Times.{times_here, times_else, times_there}
 use Rattle.act_pool.specs.Retired.{rows_of, versions_of, Each, IsInOrder, placed, later, freed}
 
 pub rows_of-append : (xs ys : List (ℕ × ℕ)) → rows_of (xs ++ ys) ≡ rows_of xs ++ rows_of ys
@@ -157,3 +157,8 @@ pub each_behind : (P : ℕ → ℕ → Type 0) (l : List (ℕ × ℕ)) (n : ℕ)
 each_behind P [] n x h e p a = absurd (omega arith)
 each_behind P (y ∷ ys) zero x h e p a = (subst (λ (z : ℕ × ℕ). P z.0 z.1) e p, a)
 each_behind P (y ∷ ys) (suc n) x h e p a = each_behind P ys n x (omega arith) e p a
+
+-- where each version that occurs is at most v, no row waits for a later one
+pub each_versions : (v : ℕ) (xs : List (ℕ × ℕ)) → ((w : ℕ) → 0 < times (versions_of xs) w → w ≤ v) → Each (λ _ w. w ≤ v) xs
+each_versions v [] all = tt
+each_versions v (x ∷ xs) all = (all x.1 (let h = times_here x.1 (versions_of xs) in omega arith), each_versions v xs (λ w h. all w (let t = times_there x.1 w (versions_of xs) in omega arith)))

@@ -12,20 +12,24 @@ use Rattle.act_rows.specs.declared.views.View.{View}
 use Rattle.act_rows.specs.declared.views.View.TheVariants.{Writes, Reads, Tells}
 use Rattle.act_rows.specs.History.{History}
 
+-- the writer: its table, and what it knows
 pub record Mastered : Type 0 where
   pub table : TableId
   pub desk : Desk
 
+-- a reader that holds no version
 pub record Guested : Type 0 where
   pub table : TableId
   pub ticket : Ticket
 
+-- a reader that holds a version, with the history of that version
 pub record Pinning : Type 0 where
   pub table : TableId
   pub ticket : Ticket
   pub history : History
   pub version : Version
 
+-- a note, with its history
 pub record Noted : Type 0 where
   pub table : TableId
   pub history : History
@@ -60,6 +64,7 @@ abbrev pub version_of : Stage → Version
 version_of (Holding h x) = x
 version_of z = no_version
 
+-- the table has its words, and is within the limits
 abbrev pub IsWide : TableId → ℕ → ℕ → Type 0
 IsWide z pins rows = (z.words ≡ 1 + pins + 512 * rows) × (rows ≤ 262144) × (pins ≤ 64)
 

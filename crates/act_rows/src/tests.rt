@@ -2,6 +2,7 @@
 ghost use Rattle.std.specs.Prelude.{◌≡◌, ℕ, ◌+◌, ◌<◌, length, Contains};
 ghost use Rattle.act_rows.specs.Images.{word_of};
 
+use crate::law::{bounds_never_fall, steps_keep_the_rule};
 use crate::{Fact, Guest, NoPin, look_at_all, new};
 use act_base::Steps;
 use std::marker::Brand;
@@ -32,6 +33,9 @@ fn read<L: Ledger>(guest: Guest<Numbers>, blank: Blank) -> (Guest<Numbers>, u64,
 
 #[test]
 fn lends_each_reader_once(rt: HostRuntime) -> Result<(), Fail> {
+    // The laws do nothing when they run.
+    steps_keep_the_rule::<Numbers>();
+    bounds_never_fall::<Numbers>();
     let mut master = new::<Numbers>(rt.alloc(), 4, 2)?;
     let Ok(first) = master.lend() else {
         return Err(Fail::from("no pin"));

@@ -1,12 +1,13 @@
 //! What seats know. No value of these types is made. A clause reads an array as a list, of any length.
 
-/// The rows of a version. The word of a row at a place is the one at (row - 1) * 256 + place of `words`.
+/// The image of a version. The word of a row at a place is the one at (row - 1) * 256 + place of `words`.
 pub struct Snapshot {
     pub rows: [u64; 0],
     pub words: [u64; 0],
     pub firsts: [(u64, u64); 0],
 }
 
+/// A version: its root row and its image.
 pub struct Version {
     pub root: u64,
     pub image: Snapshot,
@@ -14,8 +15,11 @@ pub struct Version {
 
 /// What the writer knows.
 pub struct Desk {
+    /// How many readers there are, lent or not.
     pub pins: u64,
+    /// How many rows an image has at most.
     pub rows: u64,
+    /// The entries of the one history, each a list of numbers.
     pub history: [[u64; 0]; 0],
     /// Version v is the one at v.
     pub versions: [Version; 0],
@@ -31,9 +35,12 @@ pub struct Desk {
     pub told: [[u64; 0]; 0],
 }
 
+/// How far a reader is.
 pub enum Stage {
     Idle,
+    /// It has loaded this version as a hint.
     Hinted(u64),
+    /// It has stored one more than this version in its pin word.
     Pinned(u64),
     /// The history of the version that is held, and the version.
     Holding([[u64; 0]; 0], Version),
@@ -44,6 +51,7 @@ pub struct Ticket {
     pub number: u64,
     pub pins: u64,
     pub rows: u64,
+    /// The history that it has seen.
     pub seen: [[u64; 0]; 0],
     /// What a note told, until the next step.
     pub told: [[u64; 0]; 0],
@@ -52,6 +60,7 @@ pub struct Ticket {
     pub stage: Stage,
 }
 
+/// What a seat knows: the writer, a reader, a note, or a seat that was joined to another.
 pub enum View {
     Writes(Desk),
     Reads(Ticket),

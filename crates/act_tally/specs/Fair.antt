@@ -41,18 +41,27 @@ Knows k seat (Keeps q) = seat ≡ 0
 Knows k seat (Draws t) = t.pieces ≡ k.pieces
 Knows k seat Spent = Unit {0}
 
+-- the rule of the table
 pub record Fair {S : Type 0} (k : Sizes) (s : State S View) : Type 0 where
+  -- the first seat is that of the claims
   pub keeper : Keeper
   pub its : get_elem? s.views 0 ≡ some (Keeps keeper)
+  -- they know how many pieces and claimers there are
   pub sized : (keeper.pieces ≡ k.pieces) × (keeper.claimers ≡ k.claimers)
   pub limits : (k.pieces < 2 ^ 32) × (k.claimers ≤ 64)
   pub wide : length s.words ≡ 1
+  -- each seat knows what is so
   pub each : (seat : ℕ) (v : View) → get_elem? s.views seat ≡ some v → Knows k seat v
+  -- each claimer that was handed out is out or taken back
   pub out : sum_by out_of s.views + keeper.taken ≡ keeper.handed
   pub few : keeper.handed ≤ keeper.claimers
+  -- those that have met the end, and those that may still draw, were handed out
   pub late : sum_by ended_of s.views + sum_by open_of s.views ≤ keeper.handed
+  -- the word is past the pieces by no more than have met the end
   pub low : slice_index s.words 0 ≤ k.pieces + sum_by ended_of s.views
+  -- one that has met the end fetched a number past the pieces
   pub high : 0 < sum_by ended_of s.views → k.pieces ≤ slice_index s.words 0
+  -- each number below the word was fetched once, and no other
   pub once : (x : ℕ) → x < slice_index s.words 0 → count s.views x ≡ 1
   pub none : (x : ℕ) → slice_index s.words 0 ≤ x → count s.views x ≡ 0
 
