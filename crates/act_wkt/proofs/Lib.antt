@@ -1,4 +1,9 @@
 pub mod Joined
+pub mod ListLaws
+pub mod PointLaws
 pub mod Points
+pub mod RingLaws
 pub mod Runs
 pub mod Stopped
+pub mod TokenLaws
+pub mod WholeLaws

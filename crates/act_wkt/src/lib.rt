@@ -11,6 +11,7 @@
 #![tactic(auto)]
 
 mod fault;
+mod laws;
 mod number;
 mod reader;
 mod rings;
@@ -20,4 +21,5 @@ mod token;
 mod words;
 
 pub use fault::{WktFault, WktKind};
+pub use laws::one_shape_or_fault;
 pub use reader::read;

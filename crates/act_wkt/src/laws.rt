@@ -1,0 +1,15 @@
+//! Laws about texts.
+
+ghost use Rattle.std.specs.Prelude.{◌≡◌, ◌⊎◌, ℕ, List, Ok, Err};
+ghost use Rattle.act_wkt.specs.Grammar.{IsWkt};
+ghost use Rattle.act_wkt.specs.Reading.{Fault, Rings};
+ghost use Rattle.act_wkt.specs.Wkt.{wkt_of};
+
+/// What `wkt_of` says of a text is what the grammar says: each text has one shape or one fault, and not both.
+#[tactic(auto, using(crate::proofs::WholeLaws::sound, crate::proofs::WholeLaws::complete))]
+pub fn one_shape_or_fault()
+    ensures sound { (digits : ℕ) (text : List ℕ) (rings : Rings) → wkt_of digits text ≡ Ok rings → IsWkt digits text rings }
+    ensures complete { (digits : ℕ) (text : List ℕ) (rings : Rings) → IsWkt digits text rings → wkt_of digits text ≡ Ok rings }
+    ensures one { (digits : ℕ) (text : List ℕ) (rings others : Rings) → IsWkt digits text rings → IsWkt digits text others → rings ≡ others }
+    ensures either { (digits : ℕ) (text : List ℕ) → ((rings : Rings) × IsWkt digits text rings) ⊎ ((fault : Fault) × (wkt_of digits text ≡ Err fault) × ((rings : Rings) → IsWkt digits text rings → ⊥)) }
+{}
