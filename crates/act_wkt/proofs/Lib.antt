@@ -7,3 +7,4 @@ pub mod Runs
 pub mod Stopped
 pub mod TokenLaws
 pub mod WholeLaws
+pub mod Written

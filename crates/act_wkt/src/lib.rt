@@ -17,9 +17,13 @@ mod reader;
 mod rings;
 #[cfg(test)]
 mod tests;
+mod text;
 mod token;
 mod words;
+mod writer;
 
 pub use fault::{WktFault, WktKind};
 pub use laws::one_shape_or_fault;
 pub use reader::read;
+pub use text::Text;
+pub use writer::write;
