@@ -1,15 +1,15 @@
 -- Lists as the grammar has them are those that are read, whatever their items are.
-use Rattle.std.proofs.Common.{◌≡◌, ℕ, suc, zero, ◌-◌, ◌+◌, ◌<◌, ◌≤◌, ◌++◌, List, [], ◌∷◌, Bool, true, false, cond, Result, Ok, Err, refl, ap, sym, ◌∙◌, arith, inl, inr, length, drop, codes, subst, append-nil}
+use Rattle.std.proofs.Common.{◌≡◌, ℕ, suc, zero, ◌-◌, ◌+◌, ◌≤◌, ◌++◌, List, [], ◌∷◌, Bool, true, false, cond, Result, Ok, Err, refl, ap, sym, ◌∙◌, arith, inl, inr, length, drop, codes, subst, append-nil}
 use Rattle.std.proofs.lemmas.List.Sums.{sum_by-append}
 use Rattle.act_grid.specs.declared.Point.{Point}
 use Rattle.act_wkt.specs.declared.fault.Miss.{Miss}
 use Rattle.act_wkt.specs.declared.fault.WktKind.TheVariants as kind
-use Rattle.act_wkt.specs.Grammar.{IsJoined, IsList, IsListed, IsName, IsSign, joined, points_of}
+use Rattle.act_wkt.specs.Grammar.{IsJoined, IsList, IsSign, joined, points_of}
 use Rattle.act_wkt.specs.Reading.{◌>>=◌, Found, Rings, with_front}
 use Rattle.act_wkt.specs.Tokens.{begins, miss, skip}
 use Rattle.act_wkt.specs.Wkt.{empty_at, joined_at, list_at}
 use Rattle.act_wkt.proofs.Joined.{Item, found}
-use Rattle.act_wkt.proofs.PointLaws.{bind_ok, test_ok}
+use Rattle.act_wkt.proofs.PointLaws.{bind_ok}
 use Rattle.act_wkt.proofs.RingLaws.{Complete, IsPartOf, Shrinks, Sound, begun, empty_read, name_shrinks, no_open, not_begun, read_empty, sign_shrinks}
 use Rattle.act_wkt.proofs.TokenLaws.{read_sign, sign_read}
 

@@ -1,5 +1,5 @@
 -- Numbers, points and rings as the grammar has them are those that are read.
-use Rattle.std.proofs.Common.{◌≡◌, ℕ, ℤ, suc, zero, ◌-◌, ◌+◌, ◌<◌, ◌≤◌, ◌++◌, ◌==◌, ◌&&◌, List, [], ◌∷◌, Bool, true, false, cond, Result, Ok, Err, refl, ap, sym, ◌∙◌, arith, length, drop, take, get_or, subst}
+use Rattle.std.proofs.Common.{◌≡◌, ℕ, ℤ, ◌<◌, ◌++◌, ◌&&◌, List, [], ◌∷◌, Bool, true, false, cond, Result, Ok, Err, refl, ap, sym, ◌∙◌, arith, length, get_or, subst}
 use Rattle.std.proofs.lemmas.Bool.{false≢true}
 use Rattle.std.specs.List.{list_all}
 use Rattle.act_grid.specs.declared.Point.{Point}
@@ -7,13 +7,12 @@ use Rattle.act_grid.specs.declared.NumFault.{NumFault}
 use Rattle.act_grid.specs.declared.NumFault.TheVariants as number
 use Rattle.act_grid.specs.Number.{value_of}
 use Rattle.act_wkt.specs.declared.fault.Miss.{Miss}
-use Rattle.act_wkt.specs.declared.token.Class.{Class}
 use Rattle.act_wkt.specs.declared.token.Class.TheVariants as class
-use Rattle.act_wkt.specs.Grammar.{IsNumber, IsPoint, IsPoints, IsRun, IsSign}
+use Rattle.act_wkt.specs.Grammar.{IsNumber, IsPoint}
 use Rattle.act_wkt.specs.Reading.{◌>>=◌}
-use Rattle.act_wkt.specs.Tokens.{begins, behind, front_of, is_in, miss, skip}
-use Rattle.act_wkt.specs.Wkt.{after_point, number_at, point_at, points_at, valued, with_point}
-use Rattle.act_wkt.proofs.TokenLaws.{number_no_blank, read_run, read_sign, run_read, sign_read}
+use Rattle.act_wkt.specs.Tokens.{behind, front_of, is_in, skip}
+use Rattle.act_wkt.specs.Wkt.{number_at, point_at, valued}
+use Rattle.act_wkt.proofs.TokenLaws.{number_no_blank, read_run, run_read}
 
 -- a step that found something
 pub bind_ok : {F A B : Type 0} (r : Result A F) (f : A → Result B F) (y : B) → (r >>= f) ≡ Ok y → (x : A) × (r ≡ Ok x) × (f x ≡ Ok y)

@@ -1,6 +1,6 @@
 -- Rings as the grammar has them are those that are read.
-use Rattle.std.proofs.Common.{◌≡◌, ℕ, ℤ, suc, zero, ◌-◌, ◌+◌, ◌<◌, ◌≤◌, ◌++◌, ◌==◌, ◌&&◌, List, [], ◌∷◌, Bool, true, false, cond, Result, Ok, Err, refl, ap, sym, ◌∙◌, arith, length, drop, take, get_or, codes, subst, nat_lt}
-use Rattle.std.proofs.lemmas.Bool.{eq-eqb, eqb-true, false≢true, ltb-false, le-ltb}
+use Rattle.std.proofs.Common.{◌≡◌, ℕ, ℤ, suc, zero, ◌-◌, ◌+◌, ◌<◌, ◌≤◌, ◌++◌, ◌==◌, List, [], ◌∷◌, Bool, true, false, cond, Result, Ok, Err, refl, ap, sym, ◌∙◌, arith, length, drop, take, get_or, codes, subst, nat_lt}
+use Rattle.std.proofs.lemmas.Bool.{eq-eqb, false≢true, ltb-false, le-ltb}
 use Rattle.std.proofs.lemmas.Bool.Decides.{Decides-int_eq}
 use Rattle.std.proofs.lemmas.List.{length-append, length-take-le}
 use Rattle.std.proofs.Math.Seq.{get_or-append_seam, take-append_seam}
@@ -20,7 +20,7 @@ use Rattle.act_wkt.proofs.PointLaws.{bind_ok, point_read, read_point, test_ok}
 use Rattle.act_wkt.proofs.TokenLaws.{Read, and_left, and_right, letter_no_blank, neither, read_run, read_sign, run_read, sign_read}
 
 -- one point before others
-more_before : (digits : ℕ) (text behind next rest : List ℕ) (point : Point) (points : List Point) → IsPoint digits text behind point → IsSign 44 behind next → IsPoints digits next rest points → IsPoints digits text rest (point ∷ points)
+pub more_before : (digits : ℕ) (text behind next rest : List ℕ) (point : Point) (points : List Point) → IsPoint digits text behind point → IsSign 44 behind next → IsPoints digits next rest points → IsPoints digits text rest (point ∷ points)
 more_before digits text behind next rest point [] p s h = absurd h
 more_before digits text behind next rest point (other ∷ points) p s h = (behind, next, p, s, h)
 

@@ -1,5 +1,5 @@
 -- A text has the rings that the grammar gives it, and no others.
-use Rattle.std.proofs.Common.{◌≡◌, ℕ, suc, zero, ◌-◌, ◌+◌, ◌<◌, ◌≤◌, ◌++◌, ◌==◌, ◌⊎◌, List, [], ◌∷◌, Bool, true, false, cond, Result, Ok, Err, refl, ap, sym, ◌∙◌, arith, inl, inr, length, drop, codes, subst, bytes_eq}
+use Rattle.std.proofs.Common.{◌≡◌, ℕ, ◌-◌, ◌+◌, ◌++◌, ◌==◌, ◌⊎◌, List, [], ◌∷◌, Bool, true, false, cond, Result, Ok, Err, refl, ap, sym, ◌∙◌, arith, inl, inr, length, drop, codes, subst, bytes_eq}
 use Rattle.std.proofs.lemmas.Bool.{eqb-true}
 use Rattle.std.proofs.lemmas.Slice.Eq.{bytes_eq-Decides}
 use Rattle.std.specs.List.{list_all}
@@ -11,7 +11,7 @@ use Rattle.act_wkt.specs.declared.token.Class.TheVariants as class
 use Rattle.act_wkt.specs.declared.words.Geometry.{Geometry}
 use Rattle.act_wkt.specs.declared.words.Geometry.TheVariants as geometry
 use Rattle.act_wkt.specs.Grammar.{IsList, IsName, IsPart, IsPolygon, IsPolygons, IsWkt, points_of}
-use Rattle.act_wkt.specs.Reading.{◌>>=◌, Fault, Found, Rings}
+use Rattle.act_wkt.specs.Reading.{◌>>=◌, Found, Rings}
 use Rattle.act_wkt.specs.Tokens.{begins, behind, front_of, is_in, is_word, miss, skip}
 use Rattle.act_wkt.specs.Wkt.{body_at, empty_at, ending, geometry_of, has_dimension, is_dimension, is_other_type, joined_at, list_at, placed, polygon_at, polygons_at, ring_at, rings_of, whole_at, wkt_of}
 use Rattle.act_wkt.proofs.Joined.{Item, found}

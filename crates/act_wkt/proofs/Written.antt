@@ -1,5 +1,5 @@
 -- What is written so far, and what is to come.
-use Rattle.std.proofs.Common.{◌≡◌, ℕ, suc, zero, ◌-◌, ◌+◌, ◌/◌, ◌%◌, ◌^◌, ◌<◌, ◌++◌, List, [], ◌∷◌, Some, None, refl, ap, sym, ◌∙◌, arith, drop, slice_get, append_assoc, flat_map}
+use Rattle.std.proofs.Common.{◌≡◌, ℕ, suc, zero, ◌-◌, ◌+◌, ◌/◌, ◌%◌, ◌^◌, ◌<◌, ◌++◌, List, [], ◌∷◌, Some, ap, sym, ◌∙◌, arith, drop, slice_get, append_assoc, flat_map}
 use Rattle.act_wkt.specs.Spelling.{last_digits}
 
 -- one more decimal

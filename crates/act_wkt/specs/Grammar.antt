@@ -1,5 +1,5 @@
 -- The grammar of a text: each relation says that a text begins with a part, and that a rest stands behind it.
-use Rattle.std.specs.Prelude.{◌≡◌, ◌<◌, ◌≤◌, ◌++◌, ◌⊎◌, ℕ, ℤ, suc, true, false, List, [], ◌∷◌, Ok, codes, length, slice_index, sum_by}
+use Rattle.std.specs.Prelude.{◌≡◌, ◌≤◌, ◌++◌, ◌⊎◌, ℕ, ℤ, suc, true, false, List, [], ◌∷◌, Ok, codes, length, slice_index, sum_by}
 use Rattle.std.specs.List.{list_all}
 use Rattle.act_grid.specs.declared.Point.{Point}
 use Rattle.act_grid.specs.Number.{value_of}

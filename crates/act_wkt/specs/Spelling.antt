@@ -1,5 +1,6 @@
 -- The text that is written for rings.
-use Rattle.std.specs.Prelude.{ℕ, ℤ, zero, suc, pos, ◌+◌, ◌/◌, ◌%◌, ◌^◌, ◌++◌, List, [], ◌∷◌, codes, decimal, flat_map, if◌then◌else◌, int_lt, nat_lt, unsigned_abs}
+use Rattle.std.specs.Prelude.{ℕ, ℤ, zero, suc, pos, ◌+◌, ◌/◌, ◌%◌, ◌^◌, ◌++◌, List, [], ◌∷◌, codes, decimal, flat_map, if◌then◌else◌, int_lt, length, negsuc, unsigned_abs, ◌≤◌, ◌≤ℤ◌}
+use Rattle.std.specs.List.{AllByRecursion}
 use Rattle.act_grid.specs.declared.Point.{Point}
 use Rattle.act_wkt.specs.Reading.{Rings}
 
@@ -30,3 +31,16 @@ ring_text digits (first ∷ more) = 40 ∷ (flat_map (λ point. point_text digit
 unfoldable pub spelling : ℕ → Rings → List ℕ
 spelling digits [] = codes "POLYGON EMPTY"
 spelling digits (ring ∷ rings) = codes "POLYGON(" ++ (ring_text digits ring ++ (flat_map (λ other. 44 ∷ ring_text digits other) rings ++ codes ")"))
+
+-- a number that a coordinate has room for
+pub record IsCoordinate (z : ℤ) : Type 0 where
+  pub low : negsuc 2147483647 ≤ℤ z
+  pub high : z ≤ℤ pos 2147483647
+
+pub record IsGridPoint (point : Point) : Type 0 where
+  pub x : IsCoordinate point.x
+  pub y : IsCoordinate point.y
+
+-- rings of three vertices or more, on the grid
+abbrev pub AreRings : Rings → Type 0
+AreRings = AllByRecursion (λ ring. (3 ≤ length ring) × AllByRecursion IsGridPoint ring)

@@ -1,4 +1,4 @@
-use Rattle.std.proofs.Common.{◌≡◌, ◌⊎◌, ℕ, List, Result, Ok, Err, inl, inr, sym, ◌∙◌, refl}
+use Rattle.std.proofs.Common.{◌≡◌, ◌⊎◌, ℕ, List, Result, Ok, Err, inl, inr, refl}
 use Rattle.act_wkt.specs.Grammar.{IsWkt}
 use Rattle.act_wkt.specs.Reading.{Fault, Rings}
 use Rattle.act_wkt.specs.Wkt.{wkt_of}

@@ -1,4 +1,3 @@
-use Rattle.std.proofs.Common.{◌≡◌, Ok, Err, sym, ◌∙◌}
 use Rattle.act_wkt.proofs.WholeLaws.{read_rings, rings_read}
 use Rattle.act_wkt.proofs.reader.read.Goals as goal
 

@@ -1,4 +1,4 @@
-use Rattle.std.proofs.Common.{◌≡◌, ◌++◌, ◌∷◌, [], codes, drop, flat_map}
+use Rattle.std.proofs.Common.{◌≡◌, ◌++◌, ◌∷◌, codes, drop, flat_map}
 use Rattle.act_wkt.specs.Spelling.{ring_text, spelling}
 use Rattle.act_wkt.proofs.writer.write.Given as goal
 
