@@ -11,7 +11,7 @@ use Rattle.act_grid.proofs.Digits.{all_drop, digit_here, digit_small}
 use Rattle.act_grid.specs.Number.{rounded}
 
 -- digits behind a number stand below it
-value_behind : (n : ℕ) (digits : List ℕ) → digits_value_after 10 n digits ≡ n * 10 ^ length digits + digits_value 10 digits
+pub value_behind : (n : ℕ) (digits : List ℕ) → digits_value_after 10 n digits ≡ n * 10 ^ length digits + digits_value 10 digits
 value_behind n [] = omega arith
 value_behind n (d ∷ digits) =
     let shifted = value_behind (n * 10 + digit_value d) digits in

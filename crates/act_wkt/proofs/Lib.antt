@@ -1,4 +1,12 @@
 pub mod Joined
+pub mod ListLaws
+pub mod NumberText
+pub mod PointLaws
 pub mod Points
+pub mod RingLaws
 pub mod Runs
+pub mod SpellingLaws
 pub mod Stopped
+pub mod TokenLaws
+pub mod WholeLaws
+pub mod Written

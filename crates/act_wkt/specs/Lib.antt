@@ -1,3 +1,5 @@
+pub mod Grammar
 pub mod Reading
+pub mod Spelling
 pub mod Tokens
 pub mod Wkt

@@ -10,13 +10,19 @@
 #![tactic(auto)]
 
 mod fault;
+mod laws;
 mod number;
 mod reader;
 mod rings;
 #[cfg(test)]
 mod tests;
+mod text;
 mod token;
 mod words;
+mod writer;
 
 pub use fault::{WktFault, WktKind};
+pub use laws::{one_shape_or_fault, spelling_is_read_again};
 pub use reader::read;
+pub use text::Text;
+pub use writer::write;

@@ -1,7 +1,8 @@
 //! The shape of a text.
 
-ghost use Rattle.std.specs.Prelude.{◌≡◌, ◌≤◌, ◌<◌, ◌^◌, [], length};
-ghost use Rattle.act_wkt.specs.Reading.{Answers, Found, Gives, with_front};
+ghost use Rattle.std.specs.Prelude.{◌≡◌, ◌≤◌, ◌<◌, ◌^◌, [], IfOk, length};
+ghost use Rattle.act_wkt.specs.Grammar.{IsWkt};
+ghost use Rattle.act_wkt.specs.Reading.{Answers, Found, Gives, Rings, with_front};
 ghost use Rattle.act_wkt.specs.Wkt.{body_at, rings_of, wkt_of};
 
 use crate::fault::{Stop, WktFault, WktKind};
@@ -21,7 +22,11 @@ const MOST_POINTS: u32 = 262_144;
 pub fn read(alloc: Global, text: &[u8], digits: u8) -> Result<Shape, WktFault>
     requires digits { digits ≤ 9 }
     requires length { length text.now < 2 ^ 32 }
-    ensures { Answers result (wkt_of digits text.now) }
+    // It is the shape or the fault of the text.
+    ensures exact { Answers result (wkt_of digits text.now) }
+    // A shape is one of the grammar, and where the grammar has one, it is answered.
+    ensures grammar { IfOk result (λ shape. IsWkt digits text.now shape) }
+    ensures only { (rings : Rings) → IsWkt digits text.now rings → Answers result (Ok rings) }
 {
     let mut shape = Shape::new(alloc);
     let mut points = Vec::new(alloc);

@@ -28,14 +28,14 @@ pub(crate) fn read_polygons<'a>(
     ensures found { Gives (λ found. record { rings = shape.new; room = found.0; rest = found.1.now }) result (with_front shape.old (polygons_at digits room text.now)) }
     ensures few { IfOk result (λ found. vertices_of shape.new + found.0 ≤ 262144) }
 {
-    let open = skipped(text);
-    if !is_first(open, b'(') {
-        return Ok((room, behind_empty(open)?));
+    let start = skipped(text);
+    if !is_first(start, b'(') {
+        return Ok((room, behind_empty(start)?));
     }
-    let mut rest = &open[1..];
+    let mut rest = &start[1..];
     let mut left = room;
     // Each item takes a byte at least.
-    let mut turns = open.len();
+    let mut turns = start.len();
     while turns > 0 {
         turns -= 1;
         let (after, behind) = read_polygon(rest, digits, left, points, shape)?;

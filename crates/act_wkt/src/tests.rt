@@ -1,6 +1,6 @@
 //! Texts with their shapes, and texts with their faults.
 
-use crate::{WktFault, WktKind, read};
+use crate::{WktFault, WktKind, one_shape_or_fault, read, spelling_is_read_again, write};
 use act_grid::Point;
 use std::test::Fail;
 
@@ -152,5 +152,55 @@ fn as_many_points_as_a_text_may_have(rt: HostRuntime) -> Result<(), Fail> {
         place: 1_048_585,
     };
     assert_eq!(rt; read(rt.alloc(), &text, 0).err(), Some(fault));
+    Ok(())
+}
+
+#[test]
+fn shapes_have_their_texts(rt: HostRuntime) -> Result<(), Fail> {
+    let cases: [(&[u8], u8, &[u8]); 8] = [
+        (b"polygon empty", 7, b"POLYGON EMPTY"),
+        (b"MULTIPOLYGON(EMPTY,(EMPTY))", 0, b"POLYGON EMPTY"),
+        (
+            b"POLYGON((0 0,1 0,1 1,0 0))",
+            0,
+            b"POLYGON((0 0,1 0,1 1,0 0))",
+        ),
+        (
+            b" polygon ( ( 0 0 , .6 0,1.5 1,+1e0 1., 0 0)) ",
+            0,
+            b"POLYGON((0 0,1 0,2 1,1 1,0 0))",
+        ),
+        (
+            b"POLYGON((0 0,-1.5 0.25,12.05 -0.001,0 0))",
+            3,
+            b"POLYGON((0.000 0.000,-1.500 0.250,12.050 -0.001,0.000 0.000))",
+        ),
+        (
+            b"POLYGON((2147483647 -2147483648,1 0,1 1,2147483647 -2147483648))",
+            0,
+            b"POLYGON((2147483647 -2147483648,1 0,1 1,2147483647 -2147483648))",
+        ),
+        (
+            b"POLYGON((2.147483647 -2.147483648,1 0,1 1,2.147483647 -2.147483648))",
+            9,
+            b"POLYGON((2.147483647 -2.147483648,1.000000000 0.000000000,1.000000000 1.000000000,2.147483647 -2.147483648))",
+        ),
+        (
+            b"MULTIPOLYGON(((0 0,1 0,1 1,0 0),(2 2,3 2,3 3,2 2)),((5 5,6 5,6 6,5 5)))",
+            0,
+            b"POLYGON((0 0,1 0,1 1,0 0),(2 2,3 2,3 3,2 2),(5 5,6 5,6 6,5 5))",
+        ),
+    ];
+    for (text, digits, written) in &cases {
+        assert!(rt; *digits <= 9 && text.len() < 1 << 32);
+        let shape = read(rt.alloc(), text, *digits)?;
+        let spelling = write(rt.alloc(), &shape, *digits)?;
+        assert_eq!(rt; spelling.as_bytes(), *written);
+        assert!(rt; spelling.as_bytes().len() < 1 << 32);
+        let again = read(rt.alloc(), spelling.as_bytes(), *digits)?;
+        assert_eq!(rt; write(rt.alloc(), &again, *digits)?.as_bytes(), *written);
+    }
+    one_shape_or_fault();
+    spelling_is_read_again();
     Ok(())
 }
