@@ -12,6 +12,18 @@
 
 mod cutter;
 #[cfg(test)]
-mod tests;
+mod cutter_tests;
+mod fault;
+mod fields;
+mod item;
+mod laws;
+mod line;
+#[cfg(test)]
+mod line_tests;
+mod set;
 
 pub use cutter::{CutFault, Cutter, MOST_BYTES, MOST_LINES, Taken};
+pub use fault::LineFault;
+pub use item::Item;
+pub use laws::lines_are_records;
+pub use line::read_line;

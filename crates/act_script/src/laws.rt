@@ -1,0 +1,11 @@
+//! What the definition of a line's fields comes to.
+
+ghost use Rattle.act_script.specs.Records.{LinesAreRecords, MarksAreGone, PlainLinesAreSplit};
+
+/// The fields that are read are those of the whole line: `csv` stops nowhere in it, and drops nothing
+/// of what is left of it without its marks. It does nothing when it runs.
+pub fn lines_are_records()
+    ensures records { LinesAreRecords }
+    ensures marks { MarksAreGone }
+    ensures plain { PlainLinesAreSplit }
+{}
