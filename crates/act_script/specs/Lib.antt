@@ -5,3 +5,6 @@ pub mod Fields
 pub mod Records
 pub mod Answers
 pub mod Items
+pub mod Segments
+pub mod Pending
+pub mod Script

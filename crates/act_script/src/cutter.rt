@@ -123,7 +123,7 @@ impl Cutter {
         self.end = line_end(&self.held, start);
         mem::swap(&mut self.held, &mut self.ended);
         self.held.clear();
-        self.number += 1;
+        self.number += 1; // A blank line counts.
         Ok(Taken {
             used: size + 1,
             line: true,

@@ -1,13 +1,13 @@
-//! The lines of a script, however its bytes are cut into pieces.
+//! The text of a script as lines, items, batches and segments, however its bytes are cut.
 //!
-//! A `Cutter` is given the pieces of a script as they come, and ends one line at a time. It keeps the
-//! bytes of the line at hand in a buffer that is used for all lines, and looks for line ends by
-//! `memchr`.
+//! A `Cutter` is given the pieces of a script as they come, and ends one line at a time. `read_line`
+//! says what a line says, or its first fault. A `Segmenter` takes the items and gives each segment that
+//! one of them closes. Lines, points and steps lie in buffers; nothing is allocated for a line of a point.
 //!
-//! The layers above use one contract: `to_come` of a cutter, which says what lines the script has
-//! from the line at hand on, loses with each call exactly the line that the call ended. At the start
-//! it is `script_lines` of the whole script. For example the pieces `ba` and `tch\r\nsy` and `nc`
-//! give the lines `batch` and, at the end, `sync`.
+//! The layers above use one contract a call: `to_come` of a cutter loses with each call exactly the line
+//! that the call ended, `read_line` is `item_of` of the line, and a segmenter gives `given_by` of what is
+//! pending. Together these are `script_segments` of the whole script. For example the pieces `drop,7\nsy`
+//! and `nc` give the lines `drop,7` and, at the end, `sync`, which closes a segment of one update.
 #![tactic(auto)]
 
 mod cutter;
@@ -20,6 +20,12 @@ mod laws;
 mod line;
 #[cfg(test)]
 mod line_tests;
+mod lists;
+mod pending;
+mod segment;
+#[cfg(test)]
+mod segment_tests;
+mod segmenter;
 mod set;
 
 pub use cutter::{CutFault, Cutter, MOST_BYTES, MOST_LINES, Taken};
@@ -27,3 +33,6 @@ pub use fault::LineFault;
 pub use item::Item;
 pub use laws::lines_are_records;
 pub use line::read_line;
+pub use lists::{Ids, Points};
+pub use segment::{Batch, Segment, Step, Update};
+pub use segmenter::Segmenter;
