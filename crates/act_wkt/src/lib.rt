@@ -23,7 +23,7 @@ mod words;
 mod writer;
 
 pub use fault::{WktFault, WktKind};
-pub use laws::{one_shape_or_fault, spelling_is_read_again};
+pub use laws::{no_list_is_cut_off, one_shape_or_fault, spelling_is_read_again};
 pub use reader::read;
 pub use text::Text;
 pub use writer::write;
