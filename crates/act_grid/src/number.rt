@@ -1,7 +1,8 @@
 //! The coordinate of a decimal.
 //!
 //! Only the digits up to the last one that counts, and the one behind it, decide, so no big numbers are needed:
-//! a magnitude grows to a cap just past the range and stays there.
+//! a magnitude grows to a cap just past the range and stays there. Most numbers have no exponent: these are checked
+//! and read in the same pass. With an exponent, the digits are read once more when it is known.
 
 ghost use Rattle.std.specs.Prelude.{◌≡◌, ◌≤◌, ◌<◌, ◌+◌, ◌-◌, ◌*◌, ◌/◌, ◌^◌, ◌≤ℤ◌, ◌-ℤ◌, ◌++◌, ℕ, List, [], IfSome, OnSome, drop, length, min, neg_ℤ, negsuc, pos, take, true};
 ghost use Rattle.std.specs.Char.{is_ascii_digit};
@@ -203,7 +204,7 @@ fn exponent_size(numeral: &[u8]) -> Option<u64>
     Some(accumulated(0, numeral))
 }
 
-/// The units of a decimal times 10^`power`, or the cap where they are more.
+/// The units of a decimal times 10^`power`, which may be below 0, or the cap where they are more.
 fn units(whole: &[u8], fraction: &[u8], power: i32) -> u64
     requires whole { all_ascii_digits whole.now ≡ true }
     requires fraction { all_ascii_digits fraction.now ≡ true }
@@ -254,8 +255,8 @@ fn with_next(value: u64, digit: u8) -> u64
     (value + (u64::from(digit - b'0') + 5) / 10).min(CAP)
 }
 
-#[tactic(auto, using(crate::proofs::Accumulator::value_step, crate::proofs::Digits::digit_at_front, crate::proofs::Digits::digits_behind))]
 /// The value of the digits behind those of `value`, or the cap where it is more.
+#[tactic(auto, using(crate::proofs::Accumulator::value_step, crate::proofs::Digits::digit_at_front, crate::proofs::Digits::digits_behind))]
 fn accumulated(mut value: u64, digits: &[u8]) -> u64
     requires value { value ≤ CAP }
     requires digits { all_ascii_digits digits.now ≡ true }
