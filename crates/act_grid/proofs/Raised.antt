@@ -14,7 +14,7 @@ use Rattle.act_grid.specs.Number.{rounded}
 pub joined : (front back : List ℕ) (limit : ℕ) → min (digits_value_after 10 (min (digits_value 10 front) limit) back) limit ≡ min (digits_value 10 (front ++ back)) limit
 joined front back limit = capped_after back (digits_value 10 front) limit ∙ ap (λ n. min n limit) (sym (value_append 0 front back))
 
-all_joined : (front back : List ℕ) → all_ascii_digits front ≡ true → all_ascii_digits back ≡ true → all_ascii_digits (front ++ back) ≡ true
+pub all_joined : (front back : List ℕ) → all_ascii_digits front ≡ true → all_ascii_digits back ≡ true → all_ascii_digits (front ++ back) ≡ true
 all_joined front back f b = all_append front back ∙ ap (λ c. c && all_ascii_digits back) f ∙ b
 
 -- all digits are kept

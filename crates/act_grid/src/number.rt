@@ -1,9 +1,10 @@
 //! The coordinate of a decimal.
 //!
 //! Only the digits up to the last one that counts, and the one behind it, decide, so no big numbers are needed:
-//! a magnitude grows to a cap just past the range and stays there.
+//! a magnitude grows to a cap just past the range and stays there. Most numbers have no exponent: these are checked
+//! and read in the same pass. With an exponent, the digits are read once more when it is known.
 
-ghost use Rattle.std.specs.Prelude.{◌≡◌, ◌≤◌, ◌<◌, ◌+◌, ◌-◌, ◌*◌, ◌/◌, ◌^◌, ◌≤ℤ◌, ◌-ℤ◌, ◌++◌, IfSome, drop, length, min, neg_ℤ, negsuc, pos, take, true};
+ghost use Rattle.std.specs.Prelude.{◌≡◌, ◌≤◌, ◌<◌, ◌+◌, ◌-◌, ◌*◌, ◌/◌, ◌^◌, ◌≤ℤ◌, ◌-ℤ◌, ◌++◌, ℕ, List, [], IfSome, OnSome, drop, length, min, neg_ℤ, negsuc, pos, take, true};
 ghost use Rattle.std.specs.Char.{is_ascii_digit};
 ghost use Rattle.std.specs.Str.{all_ascii_digits};
 ghost use Rattle.std.specs.Str.Parse.{digits_value, digits_value_after, starts_with_minus};
@@ -28,7 +29,11 @@ pub fn coord(text: &[u8], digits: u8) -> Result<i32, NumFault>
     requires { digits ≤ 9 }
     ensures { result ≡ value_of digits text.now }
 {
-    let decimal = split_decimal(behind_sign(text));
+    let body = behind_sign(text);
+    if let Some(magnitude) = plain(body, usize::from(digits)) {
+        return signed(has_minus(text), magnitude);
+    }
+    let decimal = split_decimal(body);
     let Some(exponent) = exponent(decimal.rest) else {
         return Err(NumFault::Form);
     };
@@ -38,6 +43,62 @@ pub fn coord(text: &[u8], digits: u8) -> Result<i32, NumFault>
     let power = exponent + i32::from(digits);
     let magnitude = units(decimal.whole, decimal.fraction, power);
     signed(has_minus(text), magnitude)
+}
+
+/// The units of a decimal without an exponent, in one pass, or the cap where they are more.
+fn plain(body: &[u8], digits: usize) -> Option<u64>
+    ensures rest { OnSome result ((decimal_of body.now).rest ≡ []) }
+    ensures some { OnSome result (0 < length ((decimal_of body.now).whole ++ (decimal_of body.now).fraction)) }
+    ensures value { IfSome result (λ magnitude. magnitude ≡ min (rounded (digits_value 10 ((decimal_of body.now).whole ++ (decimal_of body.now).fraction)) (pos digits -ℤ pos (length (decimal_of body.now).fraction))) CAP) }
+{
+    let (value, end) = leading(0, body);
+    let (whole, rest) = body.split_at(end);
+    if rest.is_empty() && !whole.is_empty() {
+        return Some(multiplied(value, digits));
+    }
+    if rest.is_empty() || rest[0] != b'.' || whole.len() + rest.len() == 1 {
+        return None;
+    }
+    with_fraction(value, &rest[1..], digits)
+}
+
+/// The units of a decimal with these digits behind its point, `value` being that of the digits before it.
+fn with_fraction(value: u64, fraction: &[u8], digits: usize) -> Option<u64>
+    requires { value ≤ CAP }
+    ensures digits { OnSome result (all_ascii_digits fraction.now ≡ true) }
+    ensures value { IfSome result (λ magnitude. (whole : List ℕ) → all_ascii_digits whole ≡ true → value ≡ min (digits_value 10 whole) CAP →
+        magnitude ≡ min (rounded (digits_value 10 (whole ++ fraction.now)) (pos digits -ℤ pos (length fraction.now))) CAP) }
+{
+    if fraction.len() <= digits {
+        let (value, count) = leading(value, fraction);
+        if count < fraction.len() {
+            return None;
+        }
+        return Some(multiplied(value, digits - fraction.len()));
+    }
+    let (kept, dropped) = fraction.split_at(digits);
+    let (value, count) = leading(value, kept);
+    if count < kept.len() || digits_len(dropped) < dropped.len() {
+        return None;
+    }
+    Some(with_next(value, dropped[0]))
+}
+
+/// The value of the digits that stand first, behind those of `value`, or the cap where it is more; and their number.
+#[tactic(auto, using(crate::proofs::Accumulator::value_first, crate::proofs::Digits::first_more, crate::proofs::Digits::first_none))]
+fn leading(mut value: u64, text: &[u8]) -> (u64, usize)
+    requires { value ≤ CAP }
+    ensures count { result.1 ≡ digits_first text.now }
+    ensures within { result.1 ≤ length text.now }
+    ensures value { result.0 ≡ min (digits_value_after 10 value (take (digits_first text.now) text.now)) CAP }
+{
+    for (i, byte) in text.iter().enumerate() {
+        if !byte.is_ascii_digit() {
+            return (value, i);
+        }
+        value = (value * 10 + u64::from(*byte - b'0')).min(CAP);
+    }
+    (value, text.len())
 }
 
 /// Whether a minus stands first.
@@ -143,7 +204,7 @@ fn exponent_size(numeral: &[u8]) -> Option<u64>
     Some(accumulated(0, numeral))
 }
 
-/// The units of a decimal times 10^`power`, or the cap where they are more.
+/// The units of a decimal times 10^`power`, which may be below 0, or the cap where they are more.
 fn units(whole: &[u8], fraction: &[u8], power: i32) -> u64
     requires whole { all_ascii_digits whole.now ≡ true }
     requires fraction { all_ascii_digits fraction.now ≡ true }
@@ -194,8 +255,8 @@ fn with_next(value: u64, digit: u8) -> u64
     (value + (u64::from(digit - b'0') + 5) / 10).min(CAP)
 }
 
-#[tactic(auto, using(crate::proofs::Accumulator::value_step, crate::proofs::Digits::digit_at_front, crate::proofs::Digits::digits_behind))]
 /// The value of the digits behind those of `value`, or the cap where it is more.
+#[tactic(auto, using(crate::proofs::Accumulator::value_step, crate::proofs::Digits::digit_at_front, crate::proofs::Digits::digits_behind))]
 fn accumulated(mut value: u64, digits: &[u8]) -> u64
     requires value { value ≤ CAP }
     requires digits { all_ascii_digits digits.now ≡ true }

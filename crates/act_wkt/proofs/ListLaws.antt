@@ -1,5 +1,5 @@
 -- Lists as the grammar has them are those that are read, whatever their items are.
-use Rattle.std.proofs.Common.{◌≡◌, ℕ, suc, zero, ◌-◌, ◌+◌, ◌≤◌, ◌++◌, List, [], ◌∷◌, Bool, true, false, cond, Result, Ok, Err, refl, ap, sym, ◌∙◌, arith, inl, inr, length, drop, codes, subst, append-nil}
+use Rattle.std.proofs.Common.{◌<◌, ◌≡◌, ℕ, suc, zero, ◌-◌, ◌+◌, ◌≤◌, ◌++◌, List, [], ◌∷◌, Bool, true, false, cond, Result, Ok, Err, refl, ap, sym, ◌∙◌, arith, inl, inr, length, drop, codes, subst, append-nil}
 use Rattle.std.proofs.lemmas.List.Sums.{sum_by-append}
 use Rattle.act_grid.specs.declared.Point.{Point}
 use Rattle.act_wkt.specs.declared.fault.Miss.{Miss}
@@ -134,3 +134,24 @@ read_list item IsItem complete shrinks room text rest rings (inr h) few =
     ap (λ l. cond (begins l 40) (joined_at item (length l) room (drop 1 l)) (empty_at room l)) is
     ∙ read_joined item IsItem complete (suc (length h.inner)) room h.inner rest h.items h.are_items (omega (arith, long)) (subst (λ (r : Rings). points_of r ≤ room) h.all_rings few)
     ∙ ap (λ (r : Rings). Ok (found r (room - points_of r) rest)) (sym h.all_rings)
+
+-- as each item takes a byte, a list is never cut off by how many items it may have
+pub never_cut_off : (item : Item) (IsItem : IsPartOf) → Sound item IsItem → Shrinks IsItem → (more most room : ℕ) (text : List ℕ) → length text < more → length text < most → joined_at item more room text ≡ joined_at item most room text
+unfolding joined_at
+never_cut_off item IsItem sound shrinks zero most room text a b = absurd (omega arith)
+never_cut_off item IsItem sound shrinks (suc more) zero room text a b = absurd (omega arith)
+never_cut_off item IsItem sound shrinks (suc more) (suc most) room text a b = by (item room text) refl (never_cut_off item IsItem sound shrinks more most)
+  where
+    by : (read : Result Found Miss) → item room text ≡ read → ((left : ℕ) (rest : List ℕ) → length rest < more → length rest < most → joined_at item more left rest ≡ joined_at item most left rest)
+        → (read >>= behind_item item more) ≡ (read >>= behind_item item most)
+    by (Err m) e same = refl
+    by (Ok one) e same = comma (begins (skip one.rest) 44) refl
+      where
+        comma : (t : Bool) → begins (skip one.rest) 44 ≡ t
+            → cond t (with_front one.rings (joined_at item more one.room (drop 1 (skip one.rest)))) (cond (begins (skip one.rest) 41) (Ok (found one.rings one.room (drop 1 (skip one.rest)))) (Err (miss kind.NoClose (skip one.rest))))
+            ≡ cond t (with_front one.rings (joined_at item most one.room (drop 1 (skip one.rest)))) (cond (begins (skip one.rest) 41) (Ok (found one.rings one.room (drop 1 (skip one.rest)))) (Err (miss kind.NoClose (skip one.rest))))
+        comma false f = refl
+        comma true f =
+            let behind = shrinks text one.rest one.rings (sound room text one e).0 in
+            let next = sign_shrinks 44 one.rest (drop 1 (skip one.rest)) (sign_read 44 one.rest (omega arith) f) in
+            ap (with_front one.rings) (same one.room (drop 1 (skip one.rest)) (omega (arith, behind, next)) (omega (arith, behind, next)))

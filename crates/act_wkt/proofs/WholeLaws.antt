@@ -1,5 +1,5 @@
 -- A text has the rings that the grammar gives it, and no others.
-use Rattle.std.proofs.Common.{◌≡◌, ℕ, ◌-◌, ◌+◌, ◌++◌, ◌==◌, ◌⊎◌, List, [], ◌∷◌, Bool, true, false, cond, Result, Ok, Err, refl, ap, sym, ◌∙◌, arith, inl, inr, length, drop, codes, subst, bytes_eq}
+use Rattle.std.proofs.Common.{◌<◌, ◌≡◌, ℕ, ◌-◌, ◌+◌, ◌++◌, ◌==◌, ◌⊎◌, List, [], ◌∷◌, Bool, true, false, cond, Result, Ok, Err, refl, ap, sym, ◌∙◌, arith, inl, inr, length, drop, codes, subst, bytes_eq}
 use Rattle.std.proofs.lemmas.Bool.{eqb-true}
 use Rattle.std.proofs.lemmas.Slice.Eq.{bytes_eq-Decides}
 use Rattle.std.specs.List.{list_all}
@@ -15,7 +15,7 @@ use Rattle.act_wkt.specs.Reading.{◌>>=◌, Found, Rings}
 use Rattle.act_wkt.specs.Tokens.{begins, behind, front_of, is_in, is_word, miss, skip}
 use Rattle.act_wkt.specs.Wkt.{body_at, empty_at, ending, geometry_of, has_dimension, is_dimension, is_other_type, joined_at, list_at, placed, polygon_at, polygons_at, ring_at, rings_of, whole_at, wkt_of}
 use Rattle.act_wkt.proofs.Joined.{Item, found}
-use Rattle.act_wkt.proofs.ListLaws.{list_read, list_shrinks, read_list}
+use Rattle.act_wkt.proofs.ListLaws.{list_read, list_shrinks, never_cut_off, read_list}
 use Rattle.act_wkt.proofs.PointLaws.{bind_ok, test_ok}
 use Rattle.act_wkt.proofs.RingLaws.{Complete, IsPartOf, Shrinks, Sound, name_read, part_read, part_shrinks, read_name, read_part, unless_ok}
 use Rattle.act_wkt.proofs.TokenLaws.{all_skipped, read_sign, skip_all, skip_twice}
@@ -181,3 +181,10 @@ sound digits text rings h = rings_read digits text rings (placed_ok text (rings_
 
 pub complete : (digits : ℕ) (text : List ℕ) (rings : Rings) → IsWkt digits text rings → wkt_of digits text ≡ Ok rings
 complete digits text rings h = ap (placed text) (read_rings digits text rings h)
+
+-- no list of rings or polygons is cut off
+pub rings_never_cut_off : (digits more most room : ℕ) (text : List ℕ) → length text < more → length text < most → joined_at (ring_at digits) more room text ≡ joined_at (ring_at digits) most room text
+rings_never_cut_off digits = never_cut_off (ring_at digits) (IsPart digits) (part_read digits) (part_shrinks digits)
+
+pub polygons_never_cut_off : (digits more most room : ℕ) (text : List ℕ) → length text < more → length text < most → joined_at (polygon_at digits) more room text ≡ joined_at (polygon_at digits) most room text
+polygons_never_cut_off digits = never_cut_off (polygon_at digits) (IsPolygon digits) (polygon_read digits) (polygon_shrinks digits)

@@ -1,10 +1,10 @@
 //! Laws about texts.
 
-ghost use Rattle.std.specs.Prelude.{◌≡◌, ◌≤◌, ◌⊎◌, ℕ, List, Ok, Err};
+ghost use Rattle.std.specs.Prelude.{◌≡◌, ◌≤◌, ◌<◌, ◌⊎◌, length, ℕ, List, Ok, Err};
 ghost use Rattle.act_wkt.specs.Grammar.{IsWkt, points_of};
 ghost use Rattle.act_wkt.specs.Reading.{Fault, Rings};
 ghost use Rattle.act_wkt.specs.Spelling.{AreRings, spelling};
-ghost use Rattle.act_wkt.specs.Wkt.{wkt_of};
+ghost use Rattle.act_wkt.specs.Wkt.{joined_at, polygon_at, ring_at, wkt_of};
 
 /// What `wkt_of` says of a text is what the grammar says: each text has one shape or one fault, and not both.
 #[tactic(auto, using(crate::proofs::WholeLaws::sound, crate::proofs::WholeLaws::complete))]
@@ -13,6 +13,12 @@ pub fn one_shape_or_fault()
     ensures complete { (digits : ℕ) (text : List ℕ) (rings : Rings) → IsWkt digits text rings → wkt_of digits text ≡ Ok rings }
     ensures one { (digits : ℕ) (text : List ℕ) (rings others : Rings) → IsWkt digits text rings → IsWkt digits text others → rings ≡ others }
     ensures either { (digits : ℕ) (text : List ℕ) → ((rings : Rings) × IsWkt digits text rings) ⊎ ((fault : Fault) × (wkt_of digits text ≡ Err fault) × ((rings : Rings) → IsWkt digits text rings → ⊥)) }
+{}
+
+/// As each item of a list takes a byte, the number of items that the definition lets a list have decides nothing.
+pub fn no_list_is_cut_off()
+    ensures rings { (digits more most room : ℕ) (text : List ℕ) → length text < more → length text < most → joined_at (ring_at digits) more room text ≡ joined_at (ring_at digits) most room text }
+    ensures polygons { (digits more most room : ℕ) (text : List ℕ) → length text < more → length text < most → joined_at (polygon_at digits) more room text ≡ joined_at (polygon_at digits) most room text }
 {}
 
 /// What is written of rings is read as these rings, where their points are few enough for a text.

@@ -2,7 +2,7 @@
 //!
 //! `read` answers the shape that a text writes, or the first fault from the left with its place. A text is read
 //! in one pass; each point goes into a buffer that is kept for all rings, and each ring is copied once, into the
-//! shape.
+//! shape. `write` answers the text of a shape, which is read again as that shape.
 //!
 //! The layers above use one contract: what `read` answers is `wkt_of` of the text. For example
 //! `read(alloc, b"POLYGON((0 0,1 0,1 1,0 0))", 0)` is a shape of one ring with three vertices, and the same
@@ -22,7 +22,7 @@ mod words;
 mod writer;
 
 pub use fault::{WktFault, WktKind};
-pub use laws::{one_shape_or_fault, spelling_is_read_again};
+pub use laws::{no_list_is_cut_off, one_shape_or_fault, spelling_is_read_again};
 pub use reader::read;
 pub use text::Text;
 pub use writer::write;

@@ -1,6 +1,8 @@
 //! Texts with their shapes, and texts with their faults.
 
-use crate::{WktFault, WktKind, one_shape_or_fault, read, spelling_is_read_again, write};
+use crate::{
+    WktFault, WktKind, no_list_is_cut_off, one_shape_or_fault, read, spelling_is_read_again, write,
+};
 use act_grid::Point;
 use std::test::Fail;
 
@@ -202,5 +204,6 @@ fn shapes_have_their_texts(rt: HostRuntime) -> Result<(), Fail> {
     }
     one_shape_or_fault();
     spelling_is_read_again();
+    no_list_is_cut_off();
     Ok(())
 }
