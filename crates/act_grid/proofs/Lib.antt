@@ -3,5 +3,5 @@ pub mod SpacedFacts
 pub mod CellFacts
 pub mod LayerFacts
 pub mod IdFacts
-pub mod CellLaws
+pub mod CellOrder
 pub mod SlotFacts
