@@ -1,7 +1,9 @@
+pub mod Accumulator
+pub mod Range
 pub mod Blocks
 pub mod SpacedFacts
 pub mod CellFacts
-pub mod LayerFacts
-pub mod IdFacts
 pub mod CellOrder
+pub mod IdFacts
 pub mod SlotFacts
+pub mod LayerFacts

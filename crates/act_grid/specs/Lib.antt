@@ -1,4 +1,5 @@
 pub mod Limits
+pub mod Number
 pub mod Hull
 pub mod Cell
 pub mod CellLaws

@@ -4,6 +4,8 @@
 //! A coordinate is a count of grid units from -2^31 to 2^31-1. With `digits` decimals a unit is
 //! 10^-digits degrees, so that 7 digits are about a centimetre.
 //!
+//! `coord` is how the layers above get coordinates: it answers the coordinate of a decimal text, or whether
+//! the text is no number or its coordinate is out of range. For example `coord(b"-12", 1)` is -120.
 #![tactic(auto)]
 
 mod cell;
@@ -14,6 +16,7 @@ mod interleave;
 mod laws;
 mod layers;
 mod memory;
+mod number;
 mod point;
 mod settings;
 mod slot;
@@ -26,6 +29,7 @@ pub use laws::{
 };
 pub use layers::Layers;
 pub use memory::NoMemory;
+pub use number::{NumFault, coord};
 pub use point::Point;
 pub use settings::Settings;
 pub use slot::Slot;

@@ -41,3 +41,32 @@ impl Settings {
         })
     }
 }
+
+#[cfg(test)]
+mod tests {
+    use super::*;
+
+    #[test]
+    fn limits(rt: HostRuntime) {
+        let cases = [
+            (0, 1, 1, 1, true),
+            (9, 262_144, 1024, 64, true),
+            (7, 16_384, 64, 4, true),
+            (10, 16_384, 64, 4, false),
+            (7, 0, 64, 4, false),
+            (7, 262_145, 64, 4, false),
+            (7, 16_384, 0, 4, false),
+            (7, 16_384, 1025, 4, false),
+            (7, 16_384, 64, 0, false),
+            (7, 16_384, 64, 65, false),
+        ];
+        for (digits, rows, cells, workers, fits) in cases {
+            let made = Settings::new(digits, rows, cells, workers);
+            assert_eq!(rt;
+                made.is_some(),
+                fits,
+                "at {digits} {rows} {cells} {workers}"
+            );
+        }
+    }
+}

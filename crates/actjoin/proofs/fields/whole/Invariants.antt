@@ -1,0 +1,11 @@
+use Rattle.std.proofs.Common.{◌≡◌, ◌≤◌, ◌&&◌, drop}
+use Rattle.std.specs.Str.{all_ascii_digits}
+use Rattle.std.specs.Str.Parse.{digits_value, digits_value_after}
+use Rattle.actjoin.proofs.fields.whole.Given as goal
+
+abbrev pub invariant-loop-b : goal.invariant-loop-b
+invariant-loop-b l = record {
+  value : digits_value_after 10 l.value (drop l.b-index l.text) ≡ digits_value 10 l.text;
+  digits : all_ascii_digits (drop l.b-index l.text) ≡ all_ascii_digits l.text;
+  few : l.value ≤ l.most;
+}
