@@ -2,6 +2,7 @@
 use Rattle.std.specs.Prelude.{◌≡◌, ℕ, zero, suc, ◌+◌, ◌≤◌, List, [], ◌∷◌, length}
 use Rattle.std.specs.List.{slice_range}
 use Rattle.act_grid.specs.declared.Point.{Point}
+use Rattle.act_geom.specs.declared.shape.TheConstants.{MOST_VERTICES}
 
 -- the rings that end at these places, the first of which begins at `start`
 abbrev pub rings_between : ℕ → List ℕ → List Point → List (List Point)
@@ -22,4 +23,4 @@ EndsFit start (end ∷ ends) total = (start + 3 ≤ end) × EndsFit end ends tot
 -- the two lists belong to a shape
 pub record IsLaid (ends : List ℕ) (points : List Point) : Type 0 where
   pub fits : EndsFit 0 ends (length points)
-  pub few : length points ≤ 262144
+  pub few : length points ≤ MOST_VERTICES

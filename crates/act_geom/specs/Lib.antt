@@ -6,3 +6,4 @@ pub mod Touch
 pub mod Class
 pub mod Body
 pub mod Walk
+pub mod Laws

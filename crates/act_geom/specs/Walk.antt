@@ -20,8 +20,10 @@ Gives w path rings answer = differ w.odd (differ (is_odd_by (counts w.point) (ed
 
 -- the words to come end a body, and the answer at its end
 pub data Expects (w : Walk) (words : List ℕ) (answer : Bool) : Type 0 where
-  AtRings : w.phase ≡ Rings → (rings : List (List Point)) → All (λ ring. 3 ≤ length ring) rings → words ≡ body_of rings → is_inside rings w.point ≡ answer → Expects w words answer
-  AtCount : w.phase ≡ Count → (rings : List (List Point)) → Coming [] rings w.rings words → 1 ≤ w.rings → differ w.odd (is_odd_by (counts w.point) (edges_of rings)) ≡ answer → Expects w words answer
+  AtRings : w.phase ≡ Rings → (rings : List (List Point)) → All (λ ring. 3 ≤ length ring) rings → words ≡ body_of rings
+      → is_inside rings w.point ≡ answer → Expects w words answer
+  AtCount : w.phase ≡ Count → (rings : List (List Point)) → Coming [] rings w.rings words → 1 ≤ w.rings
+      → differ w.odd (is_odd_by (counts w.point) (edges_of rings)) ≡ answer → Expects w words answer
   AtFirst : w.phase ≡ First → (ring : List Point) (rings : List (List Point)) → Coming ring rings w.rings words → length ring ≡ w.vertices → 3 ≤ length ring
       → differ w.odd (differ (is_odd_by (counts w.point) (ring_edges ring)) (is_odd_by (counts w.point) (edges_of rings))) ≡ answer → Expects w words answer
   AtNext : w.phase ≡ Next → (vertices : List Point) (rings : List (List Point)) → Coming vertices rings w.rings words → length vertices ≡ w.vertices → 1 ≤ length vertices
@@ -31,3 +33,17 @@ pub data Expects (w : Walk) (words : List ℕ) (answer : Bool) : Type 0 where
 abbrev pub Answers : Option Bool → Walk → List ℕ → Bool → Type 0
 Answers (Some inside) w words answer = (words ≡ []) × (inside ≡ answer)
 Answers None w words answer = (words ≢ []) × Expects w words answer
+
+-- the walk expects the body of any rings, with their answer for the point
+abbrev pub Starts : Walk → Point → Type 0
+Starts w p = (rings : List (List Point)) → All (λ ring. 3 ≤ length ring) rings → Expects w (body_of rings) (is_inside rings p)
+
+-- what a walk answers to a word that it expects, whatever words follow
+abbrev pub Takes : Walk → ℕ → Option Bool → Walk → Type 0
+Takes old word result new =
+    (words : List ℕ) (answer : Bool) → Expects old (word ∷ words) answer → Answers result new words answer
+
+-- what is answered for the words of a body
+abbrev pub AnswersBody : List ℕ → Point → Option Bool → Type 0
+AnswersBody words p result =
+    (rings : List (List Point)) → All (λ ring. 3 ≤ length ring) rings → words ≡ body_of rings → result ≡ Some (is_inside rings p)

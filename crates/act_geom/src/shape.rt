@@ -64,7 +64,8 @@ impl Shape {
     pub fn push_ring(&mut self, ring: &[Point]) -> Result<(), PushFault>
         ensures ok { OnOk result (self.new ≡ self.old ++ ring.now ∷ []) }
         ensures few { (result ≡ Err PushFault.Few) ↔ (length ring.now < 3) }
-        ensures many { (result ≡ Err PushFault.Many) ↔ ((3 ≤ length ring.now) × (MOST_VERTICES < vertices_of self.old + length ring.now)) }
+        ensures many { (result ≡ Err PushFault.Many)
+            ↔ ((3 ≤ length ring.now) × (MOST_VERTICES < vertices_of self.old + length ring.now)) }
         ensures err { OnErr result (self.new ≡ self.old) }
     {
         if ring.len() < 3 {

@@ -1,9 +1,6 @@
 //! A walk over the words of a body.
 
-ghost use Rattle.std.specs.Prelude.{◌≡◌, ◌≤◌, List, length, All};
-ghost use Rattle.act_grid.specs.declared.Point.{Point};
-ghost use Rattle.act_geom.specs.Inside.{is_inside};
-ghost use Rattle.act_geom.specs.Body.{body_of};
+ghost use Rattle.act_geom.specs.Walk.{AnswersBody};
 
 use crate::body::vertex;
 use crate::edge::edge_counts;
@@ -39,16 +36,13 @@ pub struct Walk {
 }
 
 impl Walk {
-    ghost use Rattle.std.specs.Prelude.{◌≡◌, ℕ, ◌≤◌, Bool, List, ◌∷◌, length, All};
-    ghost use Rattle.act_grid.specs.declared.Point.{Point};
-    ghost use Rattle.act_geom.specs.Inside.{is_inside};
-    ghost use Rattle.act_geom.specs.Body.{body_of};
-    ghost use Rattle.act_geom.specs.Walk.{Expects, Answers};
+    ghost use Rattle.std.specs.Prelude.{◌≡◌};
+    ghost use Rattle.act_geom.specs.Walk.{Starts, Takes};
     ghost use Rattle.act_geom.specs.declared.walk.Phase.TheVariants.{Rings, Count, First, Next};
 
     /// A walk for this point, before the first word.
     pub fn start(p: Point) -> Walk
-        ensures { (rings : List (List Point)) → All (λ ring. 3 ≤ length ring) rings → Expects result (body_of rings) (is_inside rings p) }
+        ensures { Starts result p }
     {
         Walk {
             point: p,
@@ -65,7 +59,7 @@ impl Walk {
     /// inside the shape. On words that are no body's, its answers mean nothing.
     #[inline]
     pub fn feed(&mut self, word: u64) -> Option<bool>
-        ensures { (words : List ℕ) (answer : Bool) → Expects self.old (word ∷ words) answer → Answers result self.new words answer }
+        ensures { Takes self.old word result self.new }
     {
         match self.phase {
             Phase::Next => self.feed_next(word),
@@ -78,7 +72,7 @@ impl Walk {
     #[inline]
     fn feed_rings(&mut self, word: u64) -> Option<bool>
         requires { self.old.phase ≡ Rings }
-        ensures { (words : List ℕ) (answer : Bool) → Expects self.old (word ∷ words) answer → Answers result self.new words answer }
+        ensures { Takes self.old word result self.new }
     {
         if word == 0 {
             return Some(false);
@@ -92,7 +86,7 @@ impl Walk {
     #[inline]
     fn feed_count(&mut self, word: u64) -> Option<bool>
         requires { self.old.phase ≡ Count }
-        ensures { (words : List ℕ) (answer : Bool) → Expects self.old (word ∷ words) answer → Answers result self.new words answer }
+        ensures { Takes self.old word result self.new }
     {
         self.rings = self.rings.saturating_sub(1);
         self.vertices = word;
@@ -103,7 +97,7 @@ impl Walk {
     #[inline]
     fn feed_first(&mut self, word: u64) -> Option<bool>
         requires { self.old.phase ≡ First }
-        ensures { (words : List ℕ) (answer : Bool) → Expects self.old (word ∷ words) answer → Answers result self.new words answer }
+        ensures { Takes self.old word result self.new }
     {
         let first = vertex(word);
         self.first = first;
@@ -116,7 +110,7 @@ impl Walk {
     #[inline]
     fn feed_next(&mut self, word: u64) -> Option<bool>
         requires { self.old.phase ≡ Next }
-        ensures { (words : List ℕ) (answer : Bool) → Expects self.old (word ∷ words) answer → Answers result self.new words answer }
+        ensures { Takes self.old word result self.new }
     {
         let to = vertex(word);
         let counted = edge_counts(self.last, to, self.point);
@@ -139,7 +133,7 @@ impl Walk {
 /// Whether the point is inside the shape whose body the words are. On other words the answer means
 /// nothing.
 pub fn inside_body(words: &[u64], p: Point) -> Option<bool>
-    ensures { (rings : List (List Point)) → All (λ ring. 3 ≤ length ring) rings → words.now ≡ body_of rings → result ≡ Some (is_inside rings p) }
+    ensures { AnswersBody words.now p result }
 {
     let mut walk = Walk::start(p);
     for word in words {

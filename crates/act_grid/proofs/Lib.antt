@@ -7,7 +7,7 @@ pub mod Range
 pub mod Blocks
 pub mod SpacedFacts
 pub mod CellFacts
-pub mod LayerFacts
+pub mod CellOrder
 pub mod IdFacts
-pub mod CellLaws
 pub mod SlotFacts
+pub mod LayerFacts

@@ -1,4 +1,4 @@
-use Rattle.act_grid.proofs.CellLaws.{part_from_point, part_within, some_order}
+use Rattle.act_grid.proofs.CellOrder.{part_from_point, part_within, some_order}
 use Rattle.act_grid.proofs.laws.apart_or_part.Goals as goal
 
 pub returns-clause-part : goal.returns-clause-part

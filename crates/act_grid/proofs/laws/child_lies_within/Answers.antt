@@ -1,4 +1,4 @@
-use Rattle.act_grid.proofs.CellLaws.{child_within}
+use Rattle.act_grid.proofs.CellOrder.{child_within}
 use Rattle.act_grid.proofs.laws.child_lies_within.Goals as goal
 
 pub returns : goal.returns

@@ -1,4 +1,4 @@
-use Rattle.act_grid.proofs.CellLaws.{some_child}
+use Rattle.act_grid.proofs.CellOrder.{some_child}
 use Rattle.act_grid.proofs.laws.children_cover.Goals as goal
 
 pub returns : goal.returns

@@ -1,4 +1,4 @@
-use Rattle.act_grid.proofs.CellLaws.{id_order}
+use Rattle.act_grid.proofs.CellOrder.{id_order}
 use Rattle.act_grid.proofs.laws.ids_have_z_order.Goals as goal
 
 pub returns : goal.returns
