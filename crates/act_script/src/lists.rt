@@ -1,7 +1,5 @@
 //! Lists of ids and of points.
 
-ghost use Rattle.std.specs.Prelude.{◌≡◌};
-
 use act_grid::Point;
 use std::marker::Model;
 
@@ -20,6 +18,13 @@ impl Model for Ids {
 }
 
 impl Ids {
+    ghost use Rattle.std.specs.Prelude.{◌≡◌};
+    ghost use Rattle.std.specs.Borrow.{Lends, sem, u64};
+    ghost use Rattle.std.specs.contracts.alloc.Global as global;
+    ghost use Rattle.std.specs.contracts.vec.Vec as vec;
+    ghost use Rattle.std.specs.contracts.impls.GlobalAllocator.TheImpl.{ghosts};
+    ghost use Rattle.act_script.specs.contracts.lists.Ids.{the_row};
+
     /// The list of these items. It takes constant time.
     pub fn from_vec(items: Vec<u64>) -> Ids
         ensures { result ≡ items.items }
@@ -39,6 +44,14 @@ impl Ids {
     {
         &self.items
     }
+
+    /// The items, to be changed in place.
+    pub fn vec_mut(&mut self) -> &mut Vec<u64>
+        ensures* writes_back { sem 𝓛 (Lends the_row (vec.the_row u64 global.the_row ghosts) self.entry result (λ v. v.items)) }
+        ensures shows { result.now.items ≡ self.old }
+    {
+        &mut self.items
+    }
 }
 
 /// Points of the grid.
@@ -57,6 +70,14 @@ impl Model for Points {
 }
 
 impl Points {
+    ghost use Rattle.std.specs.Prelude.{◌≡◌};
+    ghost use Rattle.std.specs.Borrow.{Lends, sem};
+    ghost use Rattle.std.specs.contracts.alloc.Global as global;
+    ghost use Rattle.std.specs.contracts.vec.Vec as vec;
+    ghost use Rattle.std.specs.contracts.impls.GlobalAllocator.TheImpl.{ghosts};
+    ghost use Rattle.act_grid.specs.contracts.Point as point;
+    ghost use Rattle.act_script.specs.contracts.lists.Points.{the_row};
+
     /// The list of these items. It takes constant time.
     pub fn from_vec(items: Vec<Point>) -> Points
         ensures { result ≡ items.items }
@@ -75,5 +96,13 @@ impl Points {
         ensures { result.now ≡ self.now }
     {
         &self.items
+    }
+
+    /// The items, to be changed in place.
+    pub fn vec_mut(&mut self) -> &mut Vec<Point>
+        ensures* writes_back { sem 𝓛 (Lends the_row (vec.the_row point.the_row global.the_row ghosts) self.entry result (λ v. v.items)) }
+        ensures shows { result.now.items ≡ self.old }
+    {
+        &mut self.items
     }
 }

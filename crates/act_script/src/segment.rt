@@ -52,6 +52,12 @@ impl Model for Segment {
 
 impl Segment {
     ghost use Rattle.std.specs.Prelude.{◌≡◌};
+    ghost use Rattle.std.specs.Borrow.{Lends, sem};
+    ghost use Rattle.std.specs.contracts.alloc.Global as global;
+    ghost use Rattle.std.specs.contracts.vec.Vec as vec;
+    ghost use Rattle.std.specs.contracts.impls.GlobalAllocator.TheImpl.{ghosts};
+    ghost use Rattle.act_script.specs.contracts.segment.Step as step;
+    ghost use Rattle.act_script.specs.contracts.segment.Segment.{the_row};
 
     /// The segment of these steps. It takes constant time.
     pub fn from_vec(steps: Vec<Step>) -> Segment
@@ -71,5 +77,13 @@ impl Segment {
         ensures { result.now ≡ self.now }
     {
         &self.steps
+    }
+
+    /// The steps, to be changed in place.
+    pub fn vec_mut(&mut self) -> &mut Vec<Step>
+        ensures* writes_back { sem 𝓛 (Lends the_row (vec.the_row step.the_row global.the_row ghosts) self.entry result (λ v. v.items)) }
+        ensures shows { result.now.items ≡ self.old }
+    {
+        &mut self.steps
     }
 }
