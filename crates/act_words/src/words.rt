@@ -1,0 +1,78 @@
+//! The settings that words ask for.
+
+ghost use Rattle.std.specs.Prelude.{◌≡◌, ◌≤◌, IfSome, map, string_bytes, codes, IfOk, option_map};
+ghost use Rattle.std.specs.List.{list_any};
+ghost use Rattle.std.specs.Str.{bytes_eq};
+ghost use Rattle.act_words.specs.Words.{fits, fits_options, set_to, wanted_by, wanted_of};
+
+use crate::number::number;
+use crate::options::{Values, parse_options};
+use act_grid::{NoMemory, Settings};
+use std::alloc::Global;
+
+/// Whether some word is `--`.
+fn is_dashed(words: &[String]) -> bool
+    ensures { result ≡ list_any (λ word. bytes_eq (string_bytes word) (codes "--")) words.now }
+{
+    words.iter().any(|word| word.as_str() == "--")
+}
+
+/// The number that an option is set to.
+fn setting(value: Option<&str>, otherwise: u64, least: u64, most: u64) -> Option<u64>
+    requires { (least ≤ otherwise) × (otherwise ≤ most) }
+    ensures value { result ≡ set_to otherwise least most (option_map (λ s. s.now) value.entry) }
+    ensures limits { IfSome result (λ n. (least ≤ n) × (n ≤ most)) }
+{
+    match value {
+        Some(value) => number(value, least, most),
+        None => Some(otherwise),
+    }
+}
+
+/// The settings by the values of the options.
+#[tactic(auto, using(crate::proofs::NumberFacts::wanted_made))]
+fn settings(values: &Values<'_>) -> Option<Settings>
+    ensures { option_map wanted_of result ≡ wanted_by (option_map (λ s. s.now) values.now.digits) (option_map (λ s. s.now) values.now.rows)
+        (option_map (λ s. s.now) values.now.cells) (option_map (λ s. s.now) values.now.workers) }
+{
+    let digits = setting(values.digits, 7, 0, 9)?;
+    let rows = setting(values.rows, 16_384, 1, 262_144)?;
+    let cells = setting(values.cells, 64, 1, 1024)?;
+    let workers = setting(values.workers, 4, 1, 64)?;
+    Settings::new(digits as u8, rows as u32, cells as u32, workers as u32)
+}
+
+/// The settings that the words after the command say, where they fit.
+#[tactic(auto, using(crate::proofs::FitsFacts::fit_or_not))]
+fn parse_settings(alloc: Global, options: &[String]) -> Result<Option<Settings>, NoMemory>
+    ensures { IfOk result (λ found. option_map wanted_of found ≡ fits_options (map string_bytes options.now)) }
+{
+    if is_dashed(options) {
+        return Ok(None);
+    }
+    match parse_options(alloc, options)? {
+        Some(values) => Ok(settings(&values)),
+        None => Ok(None),
+    }
+}
+
+/// The settings that the words of a command line ask for, those after the program's name: the word
+/// `join`, and then each of `--digits` (0 to 9, else 7), `--rows` (1 to 262,144, else 16,384),
+/// `--cells` (1 to 1,024, else 64) and `--workers` (1 to 64, else 4) at most once, in any order, as
+/// two words or as one with `=`. None comes exactly where the words don't fit.
+///
+/// It takes time in proportion to the words, and memory for what `clap` keeps of them.
+pub fn parse_words(alloc: Global, words: &[String]) -> Result<Option<Settings>, NoMemory>
+    ensures { IfOk result (λ found. option_map wanted_of found ≡ fits (map string_bytes words.now)) }
+{
+    match words {
+        [command, options @ ..] => {
+            if command.as_str() == "join" {
+                parse_settings(alloc, options)
+            } else {
+                Ok(None)
+            }
+        }
+        [] => Ok(None),
+    }
+}
