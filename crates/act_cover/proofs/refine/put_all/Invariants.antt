@@ -1,0 +1,9 @@
+use Rattle.std.proofs.Common.{take, [], ◌≡◌}
+use Rattle.std.specs.List.{flat_map}
+use Rattle.act_cover.specs.Covering.{refined}
+use Rattle.act_cover.specs.Held.{IsPut, cells_of}
+use Rattle.act_cover.proofs.refine.put_all.Given as goal
+
+-- what the cells so far give way to is put
+abbrev pub invariant-loop-held : goal.invariant-loop-held
+invariant-loop-held l = IsPut l.shape l.most [] l.next (flat_map (refined l.shape) (cells_of (take l.held-index l.now)))

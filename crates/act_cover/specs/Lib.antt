@@ -1,0 +1,5 @@
+pub mod Covering
+pub mod Level
+pub mod Order
+pub mod Held
+pub mod Lending
