@@ -73,16 +73,17 @@ pub fn whole(text: &[u8], most: u64) -> Option<u64>
     if text.is_empty() {
         return None;
     }
+    let tenth = most / 10;
     let mut value: u64 = 0;
     for b in text {
         if !b.is_ascii_digit() {
             return None;
         }
-        let next = u128::from(value) * 10 + u128::from(*b - b'0');
-        if next > u128::from(most) {
+        let digit = u64::from(*b - b'0');
+        if value > tenth || digit > most - value * 10 {
             return None;
         }
-        value = next as u64;
+        value = value * 10 + digit;
     }
     Some(value)
 }
