@@ -1,0 +1,3 @@
+pub mod Zones
+pub mod Entries
+pub mod Join
