@@ -8,3 +8,5 @@ pub mod Items
 pub mod Segments
 pub mod Pending
 pub mod Script
+pub mod History
+pub mod Text

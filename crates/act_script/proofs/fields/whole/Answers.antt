@@ -13,9 +13,9 @@ returns-then-value-tenth c =
     let digit : IsInRange 48 57 byte = digit_from_value byte c.if-not-is_ascii_digit.ensures.bound in
     let value = digit_value_digit byte digit in
     let over : c.args.most < c.loop-b.value * 10 + digit_value byte =
-        elim c.then-value-tenth.branch [
-          then-value-tenth-via-then-value-tenth w ↦ omega arith
-        | then-value-tenth-via-else-value-tenth+then-digit-most w ↦ omega arith
-        ] in
+    elim c.then-value-tenth.branch [
+      | then-value-tenth-via-then-value-tenth w ↦ omega arith
+      | then-value-tenth-via-else-value-tenth+then-digit-most w ↦ omega arith
+    ] in
     sym (none_over c.args.most c.loop-b.value (c.loop-b.value * 10 + digit_value byte) c.args.text.now c.loop-b.b-index
-        c.loop-b-test.true c.loop-b.invariant.value (omega arith) over)
+    c.loop-b-test.true c.loop-b.invariant.value (omega arith) over)
