@@ -1,5 +1,5 @@
 -- What is written for a script.
-use Rattle.std.specs.Prelude.{◌≡◌, ◌+◌, ◌≤◌, ◌++◌, ℕ, List, [], ◌∷◌, All, Option, Some, None, codes, decimal, drop, length, slice_index, take}
+use Rattle.std.specs.Prelude.{◌≡◌, ◌+◌, ◌≤◌, ◌++◌, ℕ, List, [], ◌∷◌, All, Option, Some, None, codes, decimal, drop, length, replicate, slice_index, take}
 use Rattle.std.specs.List.{flat_map}
 use Rattle.act_grid.specs.declared.Settings.{Settings}
 use Rattle.act_super.specs.Zones.{Zone}
@@ -74,3 +74,14 @@ IsFairFrom settings zones before (segment ∷ segments) counts =
 -- one fair count for each batch of a script
 abbrev pub IsFair : Settings → List ℕ → List ℕ → Type 0
 IsFair settings script counts = IsFairFrom settings [] 0 (script_segments settings.digits script) counts
+
+-- the least counts: each batch before the updates of its own segment
+abbrev pub least_counts : Settings → List Zone → ℕ → List Segment → List ℕ
+least_counts settings zones before [] = []
+least_counts settings zones before (segment ∷ segments) =
+    replicate (batches_in segment) before
+    ++ least_counts settings (zones_decided zones (changes_in segment)) (before + length (accepted_from settings zones (changes_in segment))) segments
+
+-- each script has fair counts
+abbrev pub LeastCountsAreFair : Type 0
+LeastCountsAreFair = (settings : Settings) (script : List ℕ) → IsFair settings script (least_counts settings [] 0 (script_segments settings.digits script))
