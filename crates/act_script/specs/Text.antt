@@ -1,5 +1,5 @@
 -- What is written for a script.
-use Rattle.std.specs.Prelude.{◌≡◌, ◌+◌, ◌≤◌, ◌++◌, ℕ, List, [], ◌∷◌, All, Option, Some, None, codes, decimal, drop, length, slice_index, take}
+use Rattle.std.specs.Prelude.{◌≡◌, ◌+◌, ◌≤◌, ◌++◌, ℕ, List, [], ◌∷◌, All, Option, Some, None, codes, decimal, drop, length, replicate, slice_index, take}
 use Rattle.std.specs.List.{flat_map}
 use Rattle.act_grid.specs.declared.Settings.{Settings}
 use Rattle.act_super.specs.declared.entry.Entry.{Entry}
@@ -74,3 +74,14 @@ IsFairFrom settings state before (segment ∷ segments) counts =
 -- one fair count for each batch of a script
 abbrev pub IsFair : Settings → List ℕ → List ℕ → Type 0
 IsFair settings script counts = IsFairFrom settings nothing 0 (script_segments settings.digits script) counts
+
+-- the least counts: each batch before the updates of its own segment
+abbrev pub least_counts : Settings → State → ℕ → List (List Step) → List ℕ
+least_counts settings state before [] = []
+least_counts settings state before (segment ∷ segments) =
+    replicate (batches_in segment) before
+    ++ least_counts settings (state_decided settings state (entries_in segment)) (before + length (accepted_from settings state (entries_in segment))) segments
+
+-- each script has fair counts
+abbrev pub LeastCountsAreFair : Type 0
+LeastCountsAreFair = (settings : Settings) (script : List ℕ) → IsFair settings script (least_counts settings nothing 0 (script_segments settings.digits script))

@@ -1,4 +1,4 @@
-//! What the definition of a line's fields comes to.
+//! What the definitions of lines and texts come to.
 
 ghost use Rattle.act_script.specs.Records.{LinesAreRecords, MarksAreGone, PlainLinesAreSplit};
 
@@ -8,4 +8,11 @@ pub fn lines_are_records()
     ensures records { LinesAreRecords }
     ensures marks { MarksAreGone }
     ensures plain { PlainLinesAreSplit }
+{}
+
+ghost use Rattle.act_script.specs.Text.{LeastCountsAreFair};
+
+/// Each script has fair counts for its batches: the least ones. It does nothing when it runs.
+pub fn counts_exist()
+    ensures { LeastCountsAreFair }
 {}
