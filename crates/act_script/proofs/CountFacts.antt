@@ -1,5 +1,5 @@
 -- Fair counts.
-use Rattle.std.proofs.Common.{◌≡◌, ◌≤◌, ◌<◌, ◌+◌, ◌++◌, ℕ, List, [], ◌∷◌, length, length-append, take, drop, get_or, refl, arith}
+use Rattle.std.proofs.Common.{◌≤◌, ◌<◌, ◌+◌, ◌++◌, ℕ, List, [], ◌∷◌, length, length-append, refl, arith}
 use Rattle.std.specs.Prelude.{replicate}
 use Rattle.std.proofs.lemmas.List.{drop_at, get_or-replicate, length-replicate, take_at}
 use Rattle.act_grid.specs.declared.Settings.{Settings}
@@ -21,11 +21,11 @@ least-fair settings state before [] = refl
 least-fair settings state before (segment ∷ segments) =
     let n = batches_in segment in
     let more = length (accepted_from settings state (entries_in segment)) in
-    let rest = least_counts settings (state_decided zones (entries_in segment)) (before + more) segments in
+    let rest = least_counts settings (state_decided settings state (entries_in segment)) (before + more) segments in
     let enough : n ≤ length (replicate n before ++ rest) = omega (arith, length-append (replicate n before) rest, length-replicate n before) in (
       enough,
       rw (take_at (replicate n before) rest n (length-replicate n before)) (same-fair n before more),
-      rw (drop_at (replicate n before) rest n (length-replicate n before)) (least-fair settings (state_decided zones (entries_in segment)) (before + more) segments),
+      rw (drop_at (replicate n before) rest n (length-replicate n before)) (least-fair settings (state_decided settings state (entries_in segment)) (before + more) segments),
     )
 
 pub least_counts_are_fair : LeastCountsAreFair

@@ -1,5 +1,5 @@
 -- Equal shapes, ring by ring.
-use Rattle.std.proofs.Common.{◌≡◌, ◌≢◌, ℕ, zero, suc, ◌+◌, ◌<◌, ◌&&◌, Bool, true, false, not, List, [], ◌∷◌, length, drop, Some, None, refl, ap, arith, add-one}
+use Rattle.std.proofs.Common.{◌≡◌, ◌≢◌, ℕ, zero, suc, ◌+◌, ◌&&◌, Bool, true, false, not, List, [], ◌∷◌, length, drop, Some, refl, ap, add-one}
 use Rattle.std.specs.Prelude.{slice_get}
 use Rattle.act_grid.specs.declared.Point.{Point}
 use Rattle.act_super.specs.Shapes.{same_point, same_rings}

@@ -1,7 +1,6 @@
 use Rattle.std.proofs.Common.{◌≡◌, ◌∙◌, ap, sym, arith, length, ◌<◌, ◌≤◌, ℕ, get_or, true, false, [], inr, refl}
-use Rattle.act_super.specs.States.{Plain, IsFor, has_key, has_zone}
+use Rattle.act_super.specs.States.{Plain, has_key, has_zone}
 use Rattle.act_super.specs.Places.{zones_with}
-use Rattle.act_super.specs.declared.entry.Zone.{Zone}
 use Rattle.std.proofs.lemmas.List.{get_or_default}
 use Rattle.act_super.specs.Shapes.{same_rings}
 use Rattle.act_super.proofs.Keyed.{has_found, has_free, zone_is}

@@ -1,7 +1,6 @@
-use Rattle.std.proofs.Common.{◌≡◌, ◌∙◌, ap, sym, arith, length, ◌<◌, ◌≤◌, ℕ, get_or, true, false, [], inr, refl}
+use Rattle.std.proofs.Common.{◌≡◌, ap, sym, arith, length, ◌<◌, ◌≤◌, ℕ, get_or, true}
 use Rattle.act_super.specs.States.{Plain, has_key, with_zone}
 use Rattle.act_super.specs.Places.{zones_with, IsRising}
-use Rattle.act_super.specs.declared.entry.Zone.{Zone}
 use Rattle.std.specs.Prelude.{insert}
 use Rattle.act_super.proofs.Keyed.{has_found, put_is, same_state}
 use Rattle.act_super.proofs.Rising.{rising_insert}

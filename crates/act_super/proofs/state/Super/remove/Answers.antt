@@ -1,7 +1,6 @@
-use Rattle.std.proofs.Common.{◌≡◌, ◌∙◌, ap, sym, arith, length, ◌<◌, ◌≤◌, ℕ, get_or, true, false, [], inr, refl}
+use Rattle.std.proofs.Common.{◌≡◌, ap, sym, arith, length, ◌<◌, ◌≤◌, ℕ, get_or, false}
 use Rattle.act_super.specs.States.{Plain, has_key, without_key}
 use Rattle.act_super.specs.Places.{zones_with, IsRising}
-use Rattle.act_super.specs.declared.entry.Zone.{Zone}
 use Rattle.std.specs.Prelude.{remove}
 use Rattle.act_super.proofs.Keyed.{has_free, remove_is, same_state}
 use Rattle.act_super.proofs.Rising.{rising_remove}

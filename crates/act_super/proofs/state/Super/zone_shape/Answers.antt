@@ -1,7 +1,6 @@
 use Rattle.std.proofs.Common.{◌≡◌, ◌∙◌, ap, sym, arith, length, ◌<◌, []}
 use Rattle.act_super.specs.States.{Plain}
 use Rattle.act_super.specs.Places.{zones_with}
-use Rattle.act_super.specs.declared.entry.Zone.{Zone}
 use Rattle.std.proofs.lemmas.List.{get_or_default}
 use Rattle.act_super.proofs.Keyed.{shapes_are, length-zones}
 use Rattle.act_super.proofs.state.Super.zone_shape.Goals as goal

@@ -1,7 +1,6 @@
-use Rattle.std.proofs.Common.{◌≡◌, ◌∙◌, ap, sym, arith, length}
+use Rattle.std.proofs.Common.{◌≡◌, ap, sym, arith}
 use Rattle.act_super.specs.States.{Plain}
 use Rattle.act_super.specs.Places.{zones_with}
-use Rattle.act_super.specs.declared.entry.Zone.{Zone}
 use Rattle.act_super.proofs.Keyed.{length-zones}
 use Rattle.act_super.proofs.state.Super.zones.Goals as goal
 
