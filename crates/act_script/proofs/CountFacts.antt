@@ -1,5 +1,5 @@
 -- Fair counts.
-use Rattle.std.proofs.Common.{◌≡◌, ◌≤◌, ◌<◌, ◌+◌, ◌++◌, ℕ, List, [], ◌∷◌, length, length-append, take, drop, get_or, refl, arith}
+use Rattle.std.proofs.Common.{◌≤◌, ◌<◌, ◌+◌, ◌++◌, ℕ, List, [], ◌∷◌, length, length-append, refl, arith}
 use Rattle.std.specs.Prelude.{replicate}
 use Rattle.std.proofs.lemmas.List.{drop_at, get_or-replicate, length-replicate, take_at}
 use Rattle.act_grid.specs.declared.Settings.{Settings}

@@ -1,13 +1,13 @@
 -- Lines of points whose fields are joined by commas.
-use Rattle.std.proofs.Common.{◌≡◌, ◌≢◌, ◌==◌, ◌||◌, ◌%◌, ◌+◌, ◌<◌, ℕ, suc, Bool, true, false, List, [], ◌∷◌, ◌++◌, Option, Some, None, Err, refl, sym, ap, ◌∙◌, arith, cond, length, codes}
+use Rattle.std.proofs.Common.{◌≡◌, ◌≢◌, ◌==◌, ◌||◌, ◌<◌, ℕ, suc, false, List, [], ◌∷◌, ◌++◌, Some, None, Err, refl, arith, length, codes}
 use Rattle.std.specs.Prelude.{count_by}
-use Rattle.std.specs.List.{AllByRecursion, list_any, slice_split}
+use Rattle.std.specs.List.{AllByRecursion, list_any}
 use Rattle.std.proofs.lemmas.Bool.{ne_eqb as differs}
 use Rattle.csv.specs.Reading.{strip_bom}
 use Rattle.csv.specs.Records.{field_at}
 use Rattle.memchr.specs.Find.{IsFirstByte, is_byte2}
 use Rattle.act_script.specs.Cutting.{IsOpen}
-use Rattle.act_script.specs.Fields.{Field, field_text, is_broken, line_fields}
+use Rattle.act_script.specs.Fields.{Field, is_broken, line_fields}
 use Rattle.act_script.specs.Records.{IsPlain, split_at_commas}
 use Rattle.act_script.specs.Items.{point_item, record_item}
 use Rattle.act_script.specs.declared.fault.LineFault.TheVariants as fault

@@ -1,5 +1,5 @@
 -- The changes of a script that are accepted.
-use Rattle.std.specs.Prelude.{◌+◌, ◌++◌, ℕ, List, [], ◌∷◌, Option, Some, None, if◌then◌else◌, is_none, length}
+use Rattle.std.specs.Prelude.{◌++◌, ℕ, List, [], ◌∷◌, Option, Some, None, if◌then◌else◌, is_none}
 use Rattle.std.specs.List.{filter_map, flat_map}
 use Rattle.act_grid.specs.declared.Settings.{Settings}
 use Rattle.act_super.specs.Zones.{Zone}

@@ -4,7 +4,6 @@ use Rattle.std.specs.Option.{option_and_then}
 use Rattle.std.specs.List.{slice_split}
 use Rattle.std.specs.Str.{bytes_eq}
 use Rattle.act_grid.specs.declared.Layers.{Layers}
-use Rattle.act_grid.specs.declared.Point.{Point}
 use Rattle.act_grid.specs.declared.NumFault.{NumFault}
 use Rattle.act_grid.specs.declared.NumFault.TheVariants as number
 use Rattle.act_grid.specs.Layers.{all_layers, no_layers, with_layer}

@@ -2,7 +2,6 @@
 use Rattle.std.specs.Prelude.{◌≡◌, ◌<◌, ◌≤◌, ◌^◌, length}
 use Rattle.act_script.specs.Segments.{Pending, batches_in, updates_in, vertices_in}
 use Rattle.act_script.specs.declared.pending.Pending.TheInside.{Inside}
-use Rattle.act_script.specs.declared.pending.TheConstants.{MOST_BATCHES, MOST_POINTS, MOST_UPDATES, FULL_VERTICES}
 
 abbrev pub pending_of : Inside → Pending
 pending_of p = record { steps = p.steps.items; ids = p.ids.items; points = p.points.items; layers = p.layers; number = p.number }

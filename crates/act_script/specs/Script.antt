@@ -1,5 +1,5 @@
 -- What a script says: its items up to the first bad line, and its segments.
-use Rattle.std.specs.Prelude.{◌+◌, ◌++◌, ◌⊎◌, ℕ, List, [], ◌∷◌, Option, Some, None, Result, Ok, Err, min}
+use Rattle.std.specs.Prelude.{◌+◌, ◌++◌, ◌⊎◌, ℕ, List, [], ◌∷◌, Option, Some, None, Ok, Err, min}
 use Rattle.std.proofs.Common.{inl, inr}
 use Rattle.std.specs.Option.{option_map, option_map_or}
 use Rattle.act_script.specs.Lines.{Cut, Line, script_lines}

@@ -7,7 +7,6 @@ use Rattle.act_grid.specs.Layers.{all_layers}
 use Rattle.act_geom.specs.Rings.{vertices_of}
 use Rattle.act_script.specs.declared.item.Item.{Item}
 use Rattle.act_script.specs.declared.item.Item.TheVariants as item
-use Rattle.act_script.specs.declared.segment.Batch.{Batch}
 use Rattle.act_script.specs.declared.segment.Step.{Step}
 use Rattle.act_script.specs.declared.segment.Step.TheVariants as step
 use Rattle.act_script.specs.declared.segment.Update.{Update}

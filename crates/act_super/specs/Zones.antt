@@ -1,5 +1,5 @@
 -- Zones by ascending key.
-use Rattle.std.specs.Prelude.{◌==◌, ◌&&◌, ℕ, Bool, true, false, not, List, [], ◌∷◌, Option, Some, None, filter, find, if◌then◌else◌, is_some, map, nat_lt, option_map}
+use Rattle.std.specs.Prelude.{◌==◌, ◌&&◌, ℕ, Bool, true, false, not, List, [], ◌∷◌, Option, filter, find, if◌then◌else◌, is_some, map, nat_lt, option_map}
 use Rattle.std.specs.Ordering.{int_eq}
 use Rattle.act_grid.specs.declared.Point.{Point}
 
