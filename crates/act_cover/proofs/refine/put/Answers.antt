@@ -1,4 +1,4 @@
-use Rattle.std.proofs.Common.{◌≡◌, sym, ◌∙◌}
+use Rattle.std.proofs.Common.{sym, ◌∙◌}
 use Rattle.act_cover.specs.Covering.{class_at}
 use Rattle.act_cover.proofs.PutFacts.{outside_put, on_put}
 use Rattle.act_cover.proofs.refine.put.Goals as goal

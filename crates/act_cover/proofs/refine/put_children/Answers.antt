@@ -1,5 +1,4 @@
 use Rattle.std.proofs.Common.{◌+◌, arith}
-use Rattle.act_cover.specs.Covering.{cells_on, children_of}
 use Rattle.act_cover.proofs.PutFacts.{child_put, children_no_room, room_left, no_room_left}
 use Rattle.act_cover.proofs.refine.put_children.Goals as goal
 

@@ -1,4 +1,4 @@
-use Rattle.std.proofs.Common.{◌≡◌, [], ◌∷◌, List, subst}
+use Rattle.std.proofs.Common.{[], ◌∷◌, List, subst}
 use Rattle.act_grid.specs.Cell.{Address, root_cell}
 use Rattle.act_cover.specs.declared.held.Held.{Held}
 use Rattle.act_cover.specs.Covering.{cells_on}
