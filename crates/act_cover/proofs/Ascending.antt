@@ -1,14 +1,14 @@
 -- The cells of a level stand in Z order.
-use Rattle.std.proofs.Common.{◌≡◌, ℕ, zero, suc, ◌+◌, ◌-◌, ◌*◌, ◌^◌, ◌<◌, ◌≤◌, refl, sym, ap, ◌∙◌, subst, arith, Bool, true, false, cond, List, [], ◌∷◌, ◌++◌, map, pow-suc}
+use Rattle.std.proofs.Common.{◌≡◌, ℕ, zero, suc, ◌+◌, ◌-◌, ◌*◌, ◌^◌, ◌<◌, ◌≤◌, ap, ◌∙◌, arith, Bool, true, false, cond, List, [], ◌∷◌, ◌++◌, map, pow-suc}
 use Rattle.std.specs.List.{All, flat_map, filter}
 use Rattle.std.proofs.lemmas.List.Elements.{All-head, All-tail, All-filter}
 use Rattle.std.proofs.Math.Nat.{mul-le-mul_right}
 use Rattle.act_grid.specs.declared.Point.{Point}
-use Rattle.act_grid.specs.Cell.{Address, IsCell, ComesBefore, root_cell, child_of, id_of}
+use Rattle.act_grid.specs.Cell.{Address, IsCell, root_cell, child_of, id_of}
 use Rattle.act_grid.proofs.CellLaws.{id_order}
 use Rattle.act_geom.specs.declared.class.Class.{Class}
 use Rattle.act_geom.specs.declared.class.Class.TheVariants.{Inside, Outside, Mixed}
-use Rattle.act_cover.specs.Covering.{class_at, is_on, is_within, cells_on, children_of, refined_as, refined, cells_at}
+use Rattle.act_cover.specs.Covering.{class_at, is_on, is_within, children_of, refined_as, refined, cells_at}
 use Rattle.act_cover.specs.Level.{level_of, covering_of, interior_of}
 use Rattle.act_cover.specs.Order.{AscendsFrom, IsAscending}
 use Rattle.act_cover.proofs.Placed.{IsPlaced, placed}

@@ -1,6 +1,6 @@
 -- Points inside the shape and the cells of a level.
-use Rattle.std.proofs.Common.{◌≡◌, ℕ, zero, suc, ◌+◌, ◌<◌, ◌≤◌, refl, sym, ap, ◌∙◌, subst, arith, Bool, true, false, cond, List, [], ◌∷◌, ◌++◌, length, get_or}
-use Rattle.std.specs.List.{All, Contains, flat_map, filter}
+use Rattle.std.proofs.Common.{◌≡◌, ℕ, zero, suc, ◌<◌, ◌≤◌, refl, sym, ap, ◌∙◌, subst, arith, Bool, true, false, cond, List, [], ◌∷◌}
+use Rattle.std.specs.List.{Contains, flat_map, filter}
 use Rattle.std.proofs.lemmas.List.Elements.{Contains-append_left, Contains-append_right, All-contains, filter_passes}
 use Rattle.act_grid.specs.declared.Point.{Point}
 use Rattle.act_grid.specs.Hull.{IsIn}
@@ -10,7 +10,7 @@ use Rattle.act_geom.specs.declared.class.Class.{Class}
 use Rattle.act_geom.specs.declared.class.Class.TheVariants.{Inside, Outside, Mixed}
 use Rattle.act_geom.specs.Inside.{is_inside}
 use Rattle.act_geom.proofs.ClassFacts.{answer_inside, answer_outside}
-use Rattle.act_cover.specs.Covering.{class_at, is_on, is_within, cells_on, children_of, refined_as, refined, cells_at}
+use Rattle.act_cover.specs.Covering.{class_at, is_on, is_within, children_of, refined_as, refined, cells_at}
 use Rattle.act_cover.specs.Level.{level_of, covering_of, interior_of}
 use Rattle.act_cover.proofs.Placed.{IsPlaced, placed}
 use Rattle.act_cover.proofs.Greatest.{level_below}

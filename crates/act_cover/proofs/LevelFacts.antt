@@ -1,5 +1,5 @@
 -- The greatest level that fits.
-use Rattle.std.proofs.Common.{◌≡◌, ℕ, zero, suc, ◌+◌, ◌<◌, ◌≤◌, ◌⊎◌, inl, inr, refl, sym, ap, ◌∙◌, subst, arith, Bool, true, false, cond, ◌&&◌, leb, List, [], ◌∷◌, length, map}
+use Rattle.std.proofs.Common.{◌≡◌, ℕ, zero, suc, ◌+◌, ◌<◌, ◌≤◌, ◌⊎◌, inl, inr, refl, sym, ap, ◌∙◌, arith, Bool, true, false, cond, ◌&&◌, leb, List, [], ◌∷◌, length}
 use Rattle.std.specs.List.{All, flat_map, filter}
 use Rattle.std.proofs.lemmas.List.Elements.{All-head, All-tail}
 use Rattle.std.proofs.lemmas.List.{length-map}
@@ -7,7 +7,7 @@ use Rattle.std.proofs.lemmas.Bool.Decides.{nat_tests}
 use Rattle.act_grid.specs.declared.Point.{Point}
 use Rattle.act_grid.specs.Cell.{Address}
 use Rattle.act_cover.specs.declared.held.Held.{Held}
-use Rattle.act_cover.specs.Covering.{class_at, is_within, refined, cells_on, cells_at}
+use Rattle.act_cover.specs.Covering.{class_at, is_within, refined, cells_at}
 use Rattle.act_cover.specs.Level.{fits_to, greatest, level_of, covering_of, interior_of}
 use Rattle.act_cover.specs.Held.{IsTrueOf, IsPut, IsReached, cells_of}
 use Rattle.act_cover.proofs.PutFacts.{root_small, next_reached}

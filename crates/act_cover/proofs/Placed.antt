@@ -1,14 +1,14 @@
 -- The cells of a level are cells, no deeper than the level.
-use Rattle.std.proofs.Common.{◌≡◌, ℕ, zero, suc, ◌+◌, ◌*◌, ◌^◌, ◌<◌, ◌≤◌, refl, sym, ap, ◌∙◌, subst, arith, Bool, List, [], ◌∷◌, ◌++◌, length, map, get_or, pow-suc}
-use Rattle.std.specs.List.{All, flat_map, filter}
+use Rattle.std.proofs.Common.{◌≡◌, ℕ, zero, suc, ◌+◌, ◌*◌, ◌^◌, ◌<◌, ◌≤◌, sym, ap, ◌∙◌, subst, arith, List, [], ◌∷◌, get_or, pow-suc}
+use Rattle.std.specs.List.{All, flat_map}
 use Rattle.std.proofs.lemmas.List.{get_or-map, length-map}
-use Rattle.std.proofs.lemmas.List.Elements.{All-nil, All-cons, All-append, All-head, All-tail, All-filter, All-weaker}
+use Rattle.std.proofs.lemmas.List.Elements.{All-nil, All-cons, All-append, All-head, All-tail, All-filter}
 use Rattle.act_grid.specs.declared.Point.{Point}
 use Rattle.act_grid.specs.Cell.{Address, IsCell, root_cell, child_of}
 use Rattle.act_geom.specs.declared.class.Class.{Class}
 use Rattle.act_geom.specs.declared.class.Class.TheVariants.{Inside, Outside, Mixed}
 use Rattle.act_cover.specs.declared.held.Held.{Held}
-use Rattle.act_cover.specs.Covering.{class_at, is_on, cells_on, children_of, refined_as, refined, cells_at}
+use Rattle.act_cover.specs.Covering.{class_at, is_on, children_of, refined_as, refined, cells_at}
 use Rattle.act_cover.specs.Held.{IsReached, cells_of}
 
 pub record IsPlaced (level : ℕ) (c : Address) : Type 0 where

@@ -1,9 +1,9 @@
 -- Cells put one after another.
-use Rattle.std.proofs.Common.{◌≡◌, ℕ, zero, suc, ◌+◌, ◌<◌, ◌≤◌, refl, sym, ap, ◌∙◌, subst, arith, Bool, true, false, cond, List, [], ◌∷◌, ◌++◌, length, map, take, drop, get_or, append_assoc, length-append}
-use Rattle.std.specs.List.{All, flat_map, filter}
+use Rattle.std.proofs.Common.{◌≡◌, ℕ, zero, suc, ◌+◌, ◌<◌, ◌≤◌, refl, sym, ap, ◌∙◌, subst, arith, Bool, true, false, cond, List, [], ◌∷◌, ◌++◌, length, take, drop, get_or, append_assoc, length-append}
+use Rattle.std.specs.List.{All, flat_map}
 use Rattle.std.proofs.lemmas.List.{length-map, take_more, append-nil, map-append, take-append-drop}
 use Rattle.std.proofs.lemmas.List.Concat.{flat_map-append}
-use Rattle.std.proofs.lemmas.List.Elements.{filter-append, All-nil}
+use Rattle.std.proofs.lemmas.List.Elements.{filter-append, All-push}
 use Rattle.act_grid.specs.declared.Point.{Point}
 use Rattle.act_grid.specs.Cell.{Address, root_cell, child_of}
 use Rattle.act_geom.specs.declared.class.Class.{Class}
@@ -130,3 +130,11 @@ room_left rings most old new cells room p e = subst (λ (b : Bool). Puts rings m
 pub no_room_left : (rings : List (List Point)) (most : ℕ) (old new : List Held) (cells : List Address) (room : Bool) → Puts rings most old new cells room → room ≡ false
     → most < length old + length cells
 no_room_left rings most old new cells room p e = subst (λ (b : Bool). Puts rings most old new cells b) e p
+
+pub one_put : (rings : List (List Point)) (most : ℕ) (old new : List Held) (h : Held) → new ≡ old ++ h ∷ [] → All (IsTrueOf rings) old → IsTrueOf rings h → length old < most
+    → IsPut rings most old new (h.cell ∷ [])
+one_put rings most old new h e t i l = record {
+  cells = ap (λ (xs : List Held). cells_of xs) e ∙ map-append (λ (x : Held). x.cell) old (h ∷ []);
+  true_of = subst (λ (xs : List Held). All (IsTrueOf rings) xs) (sym e) (All-push (IsTrueOf rings) old h t i);
+  fits = λ _. omega (arith, ap length e, length-append old (h ∷ []));
+}

@@ -35,6 +35,7 @@ impl Frontier {
         let blank = Held {
             cell: Cell::root(),
             class: Class::Outside,
+            near: None,
         };
         Frontier {
             held: [blank; MOST_CELLS],

@@ -15,9 +15,11 @@
 
 mod cells;
 mod coverings;
+mod edge;
 mod frontier;
 mod held;
 mod laws;
+mod near;
 mod refine;
 #[cfg(test)]
 mod tests;

@@ -8,19 +8,19 @@ ghost use Rattle.act_cover.specs.Covering.{children_of, cells_on, refined};
 ghost use Rattle.act_cover.specs.Held.{IsReached, IsTrueOf, Puts, cells_of};
 
 use crate::frontier::Frontier;
-use crate::held::Held;
-use act_geom::{Class, Shape, class_of};
-use act_grid::Cell;
+use crate::held::{Held, held_part, held_root};
+use act_geom::{Class, Shape};
 
-/// Puts the cell, where it isn't Outside. False says that the budget has no room for it.
-fn put(shape: &Shape, cell: Cell, most: usize, next: &mut Frontier) -> bool
+/// Puts what is held of a cell, where the cell isn't Outside. False says that the budget has no room for it.
+fn put(shape: &Shape, held: Held, most: usize, next: &mut Frontier) -> bool
     requires most { most ≤ 1024 }
     requires held { All (IsTrueOf shape.now) next.old }
-    ensures { Puts shape.now most next.old next.new (cells_on shape.now (cell ∷ [])) result }
+    requires is { IsTrueOf shape.now held }
+    ensures { Puts shape.now most next.old next.new (cells_on shape.now (held.cell ∷ [])) result }
 {
-    match class_of(shape, cell) {
+    match held.class {
         Class::Outside => true,
-        class => put_held(shape, Held { cell, class }, most, next),
+        _ => put_held(shape, held, most, next),
     }
 }
 
@@ -39,14 +39,17 @@ fn put_held(shape: &Shape, held: Held, most: usize, next: &mut Frontier) -> bool
 }
 
 /// Puts the children that aren't Outside.
-fn put_children(shape: &Shape, cell: Cell, most: usize, next: &mut Frontier) -> bool
+fn put_children(shape: &Shape, parent: Held, most: usize, next: &mut Frontier) -> bool
     requires most { most ≤ 1024 }
     requires held { All (IsTrueOf shape.now) next.old }
-    requires level { cell.level < 30 }
-    ensures { Puts shape.now most next.old next.new (cells_on shape.now (children_of cell)) result }
+    requires level { parent.cell.level < 30 }
+    requires is { IsTrueOf shape.now parent }
+    ensures { Puts shape.now most next.old next.new (cells_on shape.now (children_of parent.cell)) result }
 {
+    let whole = parent.cell.hull();
     for q in 0..4 {
-        if !put(shape, cell.child(q), most, next) {
+        let child = held_part(shape, parent.near, whole, parent.cell.child(q));
+        if !put(shape, child, most, next) {
             return false;
         }
     }
@@ -64,7 +67,7 @@ fn put_refined(shape: &Shape, held: Held, most: usize, next: &mut Frontier) -> b
     match held.class {
         Class::Inside => put_held(shape, held, most, next),
         Class::Outside => true,
-        Class::Mixed => put_children(shape, held.cell, most, next),
+        Class::Mixed => put_children(shape, held, most, next),
     }
 }
 
@@ -73,7 +76,7 @@ pub(crate) fn put_root(shape: &Shape, cells: &mut Frontier)
     requires empty { cells.old ≡ [] }
     ensures { IsReached shape.now 0 cells.new }
 {
-    put(shape, Cell::root(), 1, cells);
+    put(shape, held_root(shape), 1, cells);
 }
 
 /// Puts what the cells give way to.

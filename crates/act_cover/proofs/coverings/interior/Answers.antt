@@ -1,4 +1,4 @@
-use Rattle.std.proofs.Common.{◌≡◌, sym, ap, ◌∙◌, List}
+use Rattle.std.proofs.Common.{ap, ◌∙◌, List}
 use Rattle.std.specs.List.{filter}
 use Rattle.act_cover.specs.declared.held.Held.{Held}
 use Rattle.act_cover.specs.Covering.{is_within}

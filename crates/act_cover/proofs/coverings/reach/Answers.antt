@@ -1,9 +1,9 @@
-use Rattle.std.proofs.Common.{◌≡◌, ◌+◌, ◌<◌, ◌≤◌, ℕ, suc, zero, [], ◌∷◌, List, subst, sym, ap, ◌∙◌, true, refl, arith, length}
+use Rattle.std.proofs.Common.{◌≡◌, ◌+◌, ◌<◌, ℕ, suc, [], List, subst, sym, ap, ◌∙◌, arith, length}
 use Rattle.std.specs.List.{All, flat_map}
 use Rattle.act_cover.specs.declared.held.Held.{Held}
 use Rattle.act_cover.specs.Covering.{refined}
 use Rattle.act_cover.specs.Level.{fits_to}
-use Rattle.act_cover.specs.Held.{IsReached, IsPut, Puts, cells_of}
+use Rattle.act_cover.specs.Held.{IsReached, IsPut, cells_of}
 use Rattle.act_cover.proofs.PutFacts.{next_reached, room_left, no_room_left}
 use Rattle.act_cover.proofs.LevelFacts.{level_is, level_is_last, root_fits, next_fits, next_exceeds}
 use Rattle.act_cover.proofs.Placed.{can_split}

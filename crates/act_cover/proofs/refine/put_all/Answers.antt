@@ -1,4 +1,4 @@
-use Rattle.std.proofs.Common.{◌+◌, [], arith, get_or}
+use Rattle.std.proofs.Common.{◌+◌, [], arith}
 use Rattle.act_cover.proofs.PutFacts.{refined_put, refined_no_room, room_left, no_room_left}
 use Rattle.act_cover.proofs.refine.put_all.Goals as goal
 

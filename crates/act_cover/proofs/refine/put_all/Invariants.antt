@@ -1,4 +1,4 @@
-use Rattle.std.proofs.Common.{take, [], ◌≡◌}
+use Rattle.std.proofs.Common.{take, []}
 use Rattle.std.specs.List.{flat_map}
 use Rattle.act_cover.specs.Covering.{refined}
 use Rattle.act_cover.specs.Held.{IsPut, cells_of}

@@ -1,4 +1,4 @@
-use Rattle.std.proofs.Common.{◌≡◌, [], ◌∷◌, List, subst}
+use Rattle.std.proofs.Common.{[], ◌∷◌, List, subst}
 use Rattle.act_grid.specs.Cell.{Address, root_cell}
 use Rattle.act_cover.specs.declared.held.Held.{Held}
 use Rattle.act_cover.specs.Covering.{cells_on}
@@ -10,4 +10,4 @@ pub returns : goal.returns
 returns c =
     root_reached c.args.shape.now c.put.new.next c.put.result
     (subst (λ (old : List Held). Puts c.args.shape.now 1 old c.put.new.next (cells_on c.args.shape.now (root_cell ∷ [])) c.put.result) c.requires.empty
-    (subst (λ (d : Address). Puts c.args.shape.now 1 c.args.cells.now c.put.new.next (cells_on c.args.shape.now (d ∷ [])) c.put.result) c.root.ensures c.put.ensures))
+    (subst (λ (d : Address). Puts c.args.shape.now 1 c.args.cells.now c.put.new.next (cells_on c.args.shape.now (d ∷ [])) c.put.result) c.held_root.ensures.cell c.put.ensures))
