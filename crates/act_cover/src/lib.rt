@@ -15,7 +15,6 @@
 
 mod cells;
 mod coverings;
-mod edge;
 mod frontier;
 mod held;
 mod laws;

@@ -8,8 +8,7 @@ ghost use Rattle.act_geom.specs.Edges.{ring_edges};
 ghost use Rattle.act_geom.specs.Inside.{differ, is_odd_by};
 ghost use Rattle.act_cover.specs.Near.{HasEdge, IsNearIf, IsNearRing, IsTouched, moved, is_marked};
 
-use crate::edge::edge_counts;
-use act_geom::{Shape, hull_touches, inside};
+use act_geom::{Shape, edge_counts, hull_touches, inside};
 use act_grid::{Hull, Point};
 
 /// The edges of a ring from one place up to another.

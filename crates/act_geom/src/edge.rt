@@ -5,10 +5,11 @@ ghost use Rattle.act_geom.specs.Inside.{counts, is_left};
 
 use act_grid::Point;
 
-/// Whether the edge counts for the point. It multiplies only where one end is above the point's row
-/// and the other is not, and neither both ends nor none lie right of the point.
+/// Whether the edge from `a` to `b` counts for the point: it crosses the point's row on the point's
+/// right. It multiplies only where one end is above the row and the other is not, and neither both
+/// ends nor none lie right of the point.
 #[inline]
-pub(crate) fn edge_counts(a: Point, b: Point, p: Point) -> bool
+pub fn edge_counts(a: Point, b: Point, p: Point) -> bool
     ensures { result ≡ counts p (record { a = a; b = b }) }
 {
     let a_above = a.y > p.y;

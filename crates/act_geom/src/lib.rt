@@ -31,6 +31,7 @@ mod walk;
 
 pub use body::{body_len, body_word};
 pub use class::{Class, class_of};
+pub use edge::edge_counts;
 pub use laws::{
     class_answers_for_points, class_goes_down, pure_cell_has_one_answer, touching_goes_up,
 };
