@@ -26,6 +26,9 @@ struct Reached {
 }
 
 /// The greatest level up to 28 such that each level from 0 to it has at most so many cells.
+///
+/// It takes no memory, and some 100 KB of stack. At each level it looks at the four children of each Mixed
+/// cell: of a shape with one ring at the edges of the cell's run, else at each edge at most twice.
 pub fn cover_level(shape: &Shape, cells: u32) -> u32
     requires least { 1 ≤ cells }
     requires most { cells ≤ 1024 }
@@ -34,7 +37,8 @@ pub fn cover_level(shape: &Shape, cells: u32) -> u32
     reach(shape, cells as usize).level
 }
 
-/// The covering of the shape by so many cells at most: the cells of the level that `cover_level` tells.
+/// The covering of the shape by so many cells at most: the cells of the level that `cover_level` tells, by
+/// ascending ids. It costs what `cover_level` does.
 pub fn covering(alloc: Global, shape: &Shape, cells: u32) -> Result<Cells, NoMemory>
     requires least { 1 ≤ cells }
     requires most { cells ≤ 1024 }
@@ -45,7 +49,7 @@ pub fn covering(alloc: Global, shape: &Shape, cells: u32) -> Result<Cells, NoMem
     Ok(Cells::from_vec(items))
 }
 
-/// The cells of the covering that are Inside.
+/// The cells of the covering that are Inside, by ascending ids. It costs what `cover_level` does.
 pub fn interior(alloc: Global, shape: &Shape, cells: u32) -> Result<Cells, NoMemory>
     requires least { 1 ≤ cells }
     requires most { cells ≤ 1024 }
