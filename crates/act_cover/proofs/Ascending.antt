@@ -5,7 +5,7 @@ use Rattle.std.proofs.lemmas.List.Elements.{All-head, All-tail, All-filter}
 use Rattle.std.proofs.Math.Nat.{mul-le-mul_right}
 use Rattle.act_grid.specs.declared.Point.{Point}
 use Rattle.act_grid.specs.Cell.{Address, IsCell, root_cell, child_of, id_of}
-use Rattle.act_grid.proofs.CellLaws.{id_order}
+use Rattle.act_grid.proofs.CellOrder.{id_order}
 use Rattle.act_geom.specs.declared.class.Class.{Class}
 use Rattle.act_geom.specs.declared.class.Class.TheVariants.{Inside, Outside, Mixed}
 use Rattle.act_cover.specs.Covering.{class_at, is_on, is_within, children_of, refined_as, refined, cells_at}

@@ -5,7 +5,7 @@ use Rattle.std.proofs.lemmas.List.Elements.{Contains-append_left, Contains-appen
 use Rattle.act_grid.specs.declared.Point.{Point}
 use Rattle.act_grid.specs.Hull.{IsIn}
 use Rattle.act_grid.specs.Cell.{Address, IsCell, root_cell, child_of, hull_of}
-use Rattle.act_grid.proofs.CellLaws.{some_child}
+use Rattle.act_grid.proofs.CellOrder.{some_child}
 use Rattle.act_geom.specs.declared.class.Class.{Class}
 use Rattle.act_geom.specs.declared.class.Class.TheVariants.{Inside, Outside, Mixed}
 use Rattle.act_geom.specs.Inside.{is_inside}

@@ -2,7 +2,7 @@ use Rattle.std.proofs.Common.{◌+◌, ◌∙◌, sym, subst, arith}
 use Rattle.act_grid.specs.declared.Hull.{Hull}
 use Rattle.act_grid.specs.Hull.{IsWithin}
 use Rattle.act_grid.specs.Cell.{Address, hull_of}
-use Rattle.act_grid.proofs.CellLaws.{child_within}
+use Rattle.act_grid.proofs.CellOrder.{child_within}
 use Rattle.act_cover.proofs.PutFacts.{child_put, children_no_room, room_left, no_room_left}
 use Rattle.act_cover.proofs.refine.put_children.Goals as goal
 
