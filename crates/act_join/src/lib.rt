@@ -1,0 +1,24 @@
+//! Runs the segments of a script: decides updates, answers batches, and writes the replies.
+//!
+//! The steps of a segment are done in the order of the script, one after another. An update is prepared and
+//! committed, or turned away. A batch is answered over the zones that stand when it is reached, by testing
+//! each point against each zone of its layers, and its count is the number of updates accepted before it.
+//! Replies gather in one buffer, which is written at the end of a line once it has 64 KiB, and at the end
+//! of the segment, so that a great answer needs no great buffer.
+//!
+//! The layers above use one contract: `Run::segment` writes exactly the text of the segment for one list
+//! of fair counts, or a front of it where the output fails or memory runs out. For example the steps of
+//! `zone,7,"POLYGON((0 0,9 0,9 9,0 9,0 0))"` and `point,1,5,5` give `zone 7 ok`, `batch 1 after 1 points 1`
+//! and `1,7`, each with a line feed.
+#![tactic(auto)]
+
+mod decider;
+mod fault;
+mod put;
+mod run;
+#[cfg(test)]
+mod tests;
+mod words;
+
+pub use fault::SegmentFault;
+pub use run::Run;

@@ -1,0 +1,74 @@
+//! The words of replies, in the buffer.
+
+ghost use Rattle.std.specs.Prelude.{◌≡◌, ◌++◌, OnOk, decimal};
+ghost use Rattle.act_script.specs.History.{entry_of};
+ghost use Rattle.act_join.specs.Replies.{head_text, key_text};
+ghost use Rattle.act_script.specs.Text.{entry_text, verdict_text};
+
+use act_script::{Batch, Update};
+use act_super::Verdict;
+use itoa::Buffer;
+use std::alloc::AllocError;
+
+fn push_number(text: &mut Vec<u8>, number: u64) -> Result<(), AllocError>
+    ensures { OnOk result (text.new.items ≡ text.old.items ++ decimal number) }
+{
+    let mut buffer = Buffer::new();
+    text.extend_from_slice(buffer.format(number).as_bytes())
+}
+
+/// The start of the reply to an update.
+pub(crate) fn push_asked(text: &mut Vec<u8>, update: &Update) -> Result<(), AllocError>
+    ensures { OnOk result (text.new.items ≡ text.old.items ++ entry_text (entry_of update.now)) }
+{
+    match update {
+        Update::Add { key, .. } => {
+            text.extend_from_slice(b"zone ")?;
+            push_number(text, u64::from(*key))
+        }
+        Update::DropZone { key } => {
+            text.extend_from_slice(b"drop ")?;
+            push_number(text, u64::from(*key))
+        }
+        Update::Replace { key, .. } => {
+            text.extend_from_slice(b"replace ")?;
+            push_number(text, u64::from(*key))
+        }
+    }
+}
+
+/// The end of the reply to an update: accepted, or why not.
+pub(crate) fn push_verdict(text: &mut Vec<u8>, why: Option<Verdict>) -> Result<(), AllocError>
+    ensures { OnOk result (text.new.items ≡ text.old.items ++ verdict_text why) }
+{
+    match why {
+        None => text.extend_from_slice(b" ok\n"),
+        Some(Verdict::Duplicate) => text.extend_from_slice(b" refused duplicate\n"),
+        Some(Verdict::Unknown) => text.extend_from_slice(b" refused unknown\n"),
+        Some(Verdict::Same) => text.extend_from_slice(b" refused same\n"),
+        Some(Verdict::NoMemory) => text.extend_from_slice(b""),
+    }
+}
+
+/// The first line of the reply to a batch.
+pub(crate) fn push_head(text: &mut Vec<u8>, batch: &Batch, count: u64) -> Result<(), AllocError>
+    ensures { OnOk result (text.new.items ≡ text.old.items ++ head_text count batch.now) }
+{
+    text.extend_from_slice(b"batch ")?;
+    push_number(text, batch.number)?;
+    text.extend_from_slice(b" after ")?;
+    push_number(text, count)?;
+    text.extend_from_slice(b" points ")?;
+    push_number(text, batch.points.as_slice().len() as u64)?;
+    text.extend_from_slice(b"\n")
+}
+
+/// The line of a pair.
+pub(crate) fn push_pair(text: &mut Vec<u8>, id: u64, key: u32) -> Result<(), AllocError>
+    ensures { OnOk result (text.new.items ≡ text.old.items ++ key_text id key) }
+{
+    push_number(text, id)?;
+    text.extend_from_slice(b",")?;
+    push_number(text, u64::from(key))?;
+    text.extend_from_slice(b"\n")
+}
