@@ -32,7 +32,11 @@ fn print_coverings(rt: &impl Print, alloc: Global, shape: &Shape, budget: u32) -
     let level = cover_level(shape, budget);
     let all = spelled(alloc, &all)?;
     let inside = spelled(alloc, &inside)?;
-    println!(rt; "level {level} covering{} interior{}", all.as_str(), inside.as_str())?;
+    println!(rt;
+        "level {level} covering{} interior{}",
+        all.as_str(),
+        inside.as_str()
+    )?;
     Ok(())
 }
 

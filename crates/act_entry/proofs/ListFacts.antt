@@ -60,7 +60,7 @@ both_tell n m a b few most h = by (ref_of n) refl (second_of m) refl h
         let both = second_tells m s most tells r one.0 in
         let word : pair_word r s ≡ n + m * 2 ^ 31 = both.1 ∙ ap (λ k. k + m * 2 ^ 31) one.1 in
         subst (λ (a : Ref). IsPair a b × (pair_word a b ≡ n + m * 2 ^ 31)) its
-            (subst (λ b. IsPair r b × (pair_word r b ≡ n + m * 2 ^ 31)) other (both.0, word))
+        (subst (λ b. IsPair r b × (pair_word r b ≡ n + m * 2 ^ 31)) other (both.0, word))
 
 pub tells : (word : ℕ) (a : Ref) (b : Option Ref) → pair_of word ≡ Some (a, b) → IsPair a b × (pair_word a b ≡ word)
 unfolding pair_of

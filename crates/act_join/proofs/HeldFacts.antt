@@ -82,7 +82,7 @@ zones_here held before rest history leads same =
     let front = filter is_update before in
     let parts : filter is_update history ≡ front ++ filter is_update rest = ap (filter is_update) same ∙ updates_more before rest in
     let seam : take held.updates (filter is_update history) ≡ front =
-        ap (take held.updates) parts ∙ ap (λ n. take n (front ++ filter is_update rest)) (sym leads.updates) ∙ take-append_seam front (filter is_update rest) in
+    ap (take held.updates) parts ∙ ap (λ n. take n (front ++ filter is_update rest)) (sym leads.updates) ∙ take-append_seam front (filter is_update rest) in
     ap zones_of seam ∙ zones_by_updates nothing nothing before refl ∙ ap (λ s. s.zones) leads.state
 
 -- the text of the steps in such a history

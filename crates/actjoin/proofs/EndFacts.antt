@@ -1,13 +1,12 @@
 -- How a run ends, from how its parts ended.
-use Rattle.std.proofs.Common.{◌≡◌, ℕ, ◌+◌, ◌<◌, ◌≤◌, List, [], ◌∷◌, Bool, true, false, cond, Option, Some, None, length, take, get_or, refl, arith, ap, sym, ◌∙◌, take_all, zero, suc}
-use Rattle.std.specs.Prelude.{IfSome, All, nat_lt, slice_index_or}
+use Rattle.std.proofs.Common.{◌≡◌, ℕ, ◌≤◌, List, [], ◌∷◌, Bool, true, false, cond, Option, Some, None, length, take, refl, arith, ap, sym, ◌∙◌, take_all, zero, suc}
+use Rattle.std.specs.Prelude.{IfSome, All, nat_lt}
 use Rattle.std.specs.Io.KnownBytes.{Appends}
 use Rattle.std.proofs.lemmas.Bool.{le-ltb, lt-ltb}
 use Rattle.act_io.specs.Bytes.{AppendsFront}
-use Rattle.act_io.specs.Causes.{Rose}
 use Rattle.act_io.specs.Streams.{Stream, Gets, GetsFront, HasFailed}
 use Rattle.act_io.proofs.ByteFacts.{appends-none}
-use Rattle.actjoin.specs.Ends.{Answers, Ends, GetsText, GetsTextFront, HasBadLine, IsGood, IsTooLong, RunEnds, error_text, message_of, status_of}
+use Rattle.actjoin.specs.Ends.{Answers, Ends, GetsText, GetsTextFront, IsGood, IsTooLong, RunEnds, error_text, message_of, status_of}
 use Rattle.actjoin.specs.Outcomes.{bad_line, outcome_of}
 use Rattle.actjoin.specs.Text.{IsFairFor, closes_batch, own_counts, text_from}
 use Rattle.actjoin.specs.declared.script.Outcome.{Outcome}

@@ -1,9 +1,9 @@
 -- The first line of a script, and the lines after it.
-use Rattle.std.proofs.Common.{◌≡◌, ◌==◌, ℕ, suc, ◌+◌, ◌<◌, ◌≤◌, Bool, true, false, List, [], ◌∷◌, length, take, drop, refl, arith, cond, ap, ◌∙◌, add-one, take_all}
+use Rattle.std.proofs.Common.{◌≡◌, ◌==◌, ℕ, ◌+◌, ◌<◌, Bool, true, false, List, [], ◌∷◌, length, take, drop, refl, arith, cond, ap, ◌∙◌, add-one, take_all}
 use Rattle.std.proofs.lemmas.List.{drop_all}
 use Rattle.std.proofs.lemmas.List.Recursion.{is_position_or_len}
 use Rattle.std.specs.List.{position_or_len}
-use Rattle.std.specs.Prelude.{Option, Some, None}
+use Rattle.std.specs.Prelude.{Some, None}
 use Rattle.memchr.specs.Find.{IsFirstByte, is_byte}
 use Rattle.actjoin.specs.Lines.{lines_of, onto_first}
 use Rattle.actjoin.proofs.ScanFacts.{place_found, place_none}

@@ -1,5 +1,5 @@
 -- One text after another on a sink.
-use Rattle.std.proofs.Common.{◌≡◌, ℕ, List, [], ◌++◌, ◌+◌, ◌≤◌, ◌^◌, ◌-◌, min, take, length, Option, Some, None, Result, Ok, Err, true, false, is_err, refl, arith, ◌∙◌, ◌⊎◌, inl, inr}
+use Rattle.std.proofs.Common.{◌≡◌, ℕ, List, ◌++◌, ◌+◌, min, take, length, Option, Result, Ok, Err, true, false, is_err, refl, arith, ◌∙◌, inl, inr}
 use Rattle.std.proofs.Math.Seq.{take-append-add}
 use Rattle.std.proofs.lemmas.List.{take-append-le, take_min}
 use Rattle.std.specs.Prelude.{OnOk, OnErr}

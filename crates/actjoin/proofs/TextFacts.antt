@@ -1,13 +1,13 @@
 -- The text of pairs, point by point.
-use Rattle.std.proofs.Common.{◌≡◌, ℕ, suc, ◌+◌, ◌<◌, List, [], ◌∷◌, ◌++◌, map, take, drop, length, refl, arith, ap, ◌∙◌, get_or, add-one, drop-cons}
+use Rattle.std.proofs.Common.{◌≡◌, ℕ, suc, ◌+◌, ◌<◌, List, ◌++◌, take, drop, length, refl, arith, get_or, drop-cons}
 use Rattle.std.proofs.Math.Seq.{take-length}
-use Rattle.std.specs.Prelude.{slice_index, filter}
+use Rattle.std.specs.Prelude.{slice_index}
 use Rattle.std.specs.List.{flat_map}
 use Rattle.std.proofs.lemmas.Grind.{flat_map-append}
 use Rattle.std.proofs.lemmas.List.Folds.{flat_map-map}
 use Rattle.act_grid.specs.declared.Point.{Point}
 use Rattle.actjoin.specs.declared.item.Zone.{Zone}
-use Rattle.actjoin.specs.Text.{Pair, join_from, pair_text, pairs_text, zones_at}
+use Rattle.actjoin.specs.Text.{join_from, pair_text, pairs_text, zones_at}
 
 -- the pairs of one point, and those of the points after it
 pub pairs_step : (ids : List ℕ) (zones : List Zone) (points : List Point) (place : ℕ) (point : Point) → place < length points

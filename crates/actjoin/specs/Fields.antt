@@ -1,5 +1,5 @@
 -- The fields of a line.
-use Rattle.std.specs.Prelude.{◌==◌, ◌+◌, ◌-◌, ℕ, ◌&&◌, List, [], ◌∷◌, Option, Some, None, length, take, drop, slice_index, if◌then◌else◌, nat_le, nat_lt, codes}
+use Rattle.std.specs.Prelude.{◌==◌, ◌+◌, ◌-◌, ℕ, ◌&&◌, List, Option, Some, None, length, take, drop, slice_index, if◌then◌else◌, nat_le, nat_lt}
 use Rattle.std.specs.Option.{option_map}
 use Rattle.std.specs.List.{position}
 use Rattle.std.specs.Str.{all_ascii_digits, bytes_eq}

@@ -64,11 +64,9 @@ fn make_zone(alloc: Global, key: &[u8], shape: &[u8], digits: u8) -> Result<Opti
     let Some(key) = whole(key, u64::from(u32::MAX)) else {
         return Ok(None);
     };
+    let key = key as u32;
     match read(alloc, shape, digits) {
-        Ok(shape) => Ok(Some(Item::Zone(Zone {
-            key: key as u32,
-            shape,
-        }))),
+        Ok(shape) => Ok(Some(Item::Zone(Zone { key, shape }))),
         Err(WktFault::At { .. }) => Ok(None),
         Err(WktFault::NoMemory) => Err(NoMemory),
     }

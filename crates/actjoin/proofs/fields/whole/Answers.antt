@@ -1,5 +1,4 @@
-use Rattle.std.proofs.Common.{◌≡◌, ◌+◌, ◌*◌, ◌<◌, ◌-◌, sym, get_or, length, arith, drop}
-use Rattle.std.specs.Char.{digit_value}
+use Rattle.std.proofs.Common.{◌+◌, ◌*◌, sym, get_or, arith}
 use Rattle.std.specs.Int.{IsInRange}
 use Rattle.std.proofs.lemmas.Str.{digit_value_digit}
 use Rattle.std.proofs.lemmas.Str.Parse.{digit_from_value}

@@ -1,6 +1,5 @@
-use Rattle.std.proofs.Common.{◌≡◌, [], ◌∷◌, drop, take, length, arith}
+use Rattle.std.proofs.Common.{◌≡◌, [], drop, length, arith}
 use Rattle.std.proofs.lemmas.List.{drop_all}
-use Rattle.actjoin.specs.Lines.{lines_of}
 use Rattle.actjoin.proofs.LineFacts.{line_found, line_left}
 use Rattle.actjoin.proofs.ScanFacts.{slice_rest}
 use Rattle.actjoin.proofs.lines.cut_line.Goals as goal

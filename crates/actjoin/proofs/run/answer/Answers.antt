@@ -1,4 +1,4 @@
-use Rattle.std.proofs.Common.{◌≡◌, ◌∙◌, None, sym, is_err}
+use Rattle.std.proofs.Common.{◌∙◌, None, sym}
 use Rattle.actjoin.proofs.EndFacts.{bad_is, gets_front, gets_text, none_answered}
 use Rattle.actjoin.proofs.PutFacts.{put_front, put_whole}
 use Rattle.actjoin.proofs.run.answer.Goals as goal

@@ -1,4 +1,4 @@
-use Rattle.std.proofs.Common.{◌≡◌, ◌++◌, ◌∙◌, decimal, codes, sym, ap}
+use Rattle.std.proofs.Common.{◌≡◌, ◌++◌, ◌∙◌, decimal, codes, sym}
 use Rattle.actjoin.proofs.PutFacts.{puts_first, puts_second, puts_front, puts_whole}
 use Rattle.actjoin.proofs.run.put_bad_line.Goals as goal
 

@@ -1,7 +1,5 @@
-use Rattle.std.proofs.Common.{◌≡◌, ◌++◌, ◌+◌, ◌∙◌, ap, sym, pos, arith, drop, append_assoc, length, ◌<◌, get_or}
-use Rattle.std.specs.Prelude.{slice_index}
-use Rattle.std.specs.List.{flat_map}
-use Rattle.actjoin.specs.Text.{pairs_text, pair_text, join_from, zones_at}
+use Rattle.std.proofs.Common.{◌++◌, ◌+◌, ◌∙◌, ap, sym, pos, drop, append_assoc}
+use Rattle.actjoin.specs.Text.{pairs_text, join_from}
 use Rattle.actjoin.proofs.TextFacts.{pairs_step}
 use Rattle.actjoin.proofs.text.push_pairs.Goals as goal
 
