@@ -4,3 +4,4 @@ pub mod HitFacts
 pub mod HeldFacts
 pub mod ReplyFacts
 pub mod TextFacts
+pub mod EndFacts

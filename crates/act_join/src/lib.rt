@@ -13,6 +13,8 @@
 #![tactic(auto)]
 
 mod decider;
+mod driver;
+mod ended;
 mod fault;
 mod put;
 mod run;
@@ -20,5 +22,7 @@ mod run;
 mod tests;
 mod words;
 
+pub use driver::engine;
+pub use ended::{Ended, ScriptFault};
 pub use fault::SegmentFault;
 pub use run::Run;

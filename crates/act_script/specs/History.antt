@@ -40,6 +40,10 @@ accepted_from settings state [] = []
 accepted_from settings state (asked ∷ entries) =
     (if is_none (verdict_of settings state asked) then asked ∷ [] else []) ++ accepted_from settings (decided settings state asked) entries
 
+-- the history of segments that are run one after another
+abbrev pub history_in : Settings → List (List Step) → List Entry
+history_in settings segments = accepted_from settings nothing (flat_map entries_in segments)
+
 -- the history of a script
 abbrev pub history_of : Settings → List ℕ → List Entry
-history_of settings script = accepted_from settings nothing (flat_map entries_in (script_segments settings.digits script))
+history_of settings script = history_in settings (script_segments settings.digits script)

@@ -1,5 +1,5 @@
 -- What a script says: its items up to the first bad line, and its segments.
-use Rattle.std.specs.Prelude.{◌+◌, ◌++◌, ◌⊎◌, ℕ, List, [], ◌∷◌, Option, Some, None, Ok, Err, min}
+use Rattle.std.specs.Prelude.{◌==◌, ◌+◌, ◌++◌, ◌⊎◌, if◌then◌else◌, ℕ, List, [], ◌∷◌, Option, Some, None, Ok, Err, min}
 use Rattle.std.proofs.Common.{inl, inr}
 use Rattle.std.specs.Option.{option_map, option_map_or}
 use Rattle.act_script.specs.Lines.{Cut, Line, script_lines}
@@ -55,3 +55,16 @@ content_segments content = option_map_or (λ bad. closed_segments nothing_pendin
 
 abbrev pub script_segments : ℕ → List ℕ → List (List Step)
 script_segments digits script = content_segments (script_content digits script)
+
+-- the bytes up to the last line feed, and with it
+abbrev pub onto_ended : ℕ → List ℕ → List ℕ
+onto_ended b [] = []
+onto_ended b (a ∷ bytes) = b ∷ a ∷ bytes
+
+abbrev pub ended_part : List ℕ → List ℕ
+ended_part [] = []
+ended_part (b ∷ bytes) = if b == 10 then b ∷ ended_part bytes else onto_ended b (ended_part bytes)
+
+-- the segments that are closed by the lines that end with a line feed
+abbrev pub ended_segments : ℕ → List ℕ → List (List Step)
+ended_segments digits bytes = closed_segments nothing_pending (script_content digits (ended_part bytes)).items

@@ -10,7 +10,7 @@ use Rattle.act_super.specs.declared.verdict.Verdict.TheVariants as verdict
 use Rattle.act_super.specs.Histories.{zones_after}
 use Rattle.act_super.specs.Joins.{Hit, join}
 use Rattle.act_super.specs.States.{nothing, verdict_of}
-use Rattle.act_script.specs.History.{accepted_from, decided, entries_in, entry_of, history_of, state_decided}
+use Rattle.act_script.specs.History.{accepted_from, decided, entries_in, entry_of, history_in, state_decided}
 use Rattle.act_script.specs.Script.{script_segments}
 use Rattle.act_script.specs.Segments.{batches_in}
 use Rattle.act_script.specs.declared.segment.Batch.{Batch}
@@ -53,10 +53,13 @@ steps_text settings history state (step.Update asked ∷ steps) counts =
 steps_text settings history state (step.Batch batch ∷ steps) counts =
     batch_text history (slice_index counts 0) batch ++ steps_text settings history state steps (drop 1 counts)
 
--- the text of a script, where its batches are answered after these numbers of accepted updates
+-- the text of segments, where their batches are answered after these numbers of accepted updates
+abbrev pub segments_text : Settings → List (List Step) → List ℕ → List ℕ
+segments_text settings segments counts = steps_text settings (history_in settings segments) nothing (flat_map (λ segment. segment) segments) counts
+
+-- the text of a script
 abbrev pub text_of : Settings → List ℕ → List ℕ → List ℕ
-text_of settings script counts =
-    steps_text settings (history_of settings script) nothing (flat_map (λ segment. segment) (script_segments settings.digits script)) counts
+text_of settings script counts = segments_text settings (script_segments settings.digits script) counts
 
 -- the counts of a segment's batches are fair: from the updates that were accepted before the segment to those that
 -- are accepted by its end
