@@ -1,138 +1,148 @@
 -- How a run ends, from how its parts ended.
-use Rattle.std.proofs.Common.{◌≡◌, ℕ, ◌≤◌, List, [], ◌∷◌, Bool, true, false, cond, Option, Some, None, length, take, refl, arith, ap, sym, ◌∙◌, take_all, zero, suc}
-use Rattle.std.specs.Prelude.{IfSome, All, nat_lt}
-use Rattle.std.specs.Io.KnownBytes.{Appends}
-use Rattle.std.proofs.lemmas.Bool.{le-ltb, lt-ltb}
-use Rattle.act_io.specs.Bytes.{AppendsFront}
+use Rattle.std.proofs.Common.{◌≡◌, ◌⊎◌, ℕ, List, [], Some, None, length, take, refl, arith, subst, take_all, inl, inr}
+use Rattle.std.specs.Io.KnownBytes.{Keeps}
+use Rattle.act_grid.specs.declared.Settings.{Settings}
 use Rattle.act_io.specs.Streams.{Stream, Gets, GetsFront, HasFailed}
-use Rattle.act_io.proofs.ByteFacts.{appends-none}
-use Rattle.actjoin.specs.Ends.{Answers, Ends, GetsText, GetsTextFront, IsGood, IsTooLong, RunEnds, error_text, message_of, status_of}
-use Rattle.actjoin.specs.Outcomes.{bad_line, outcome_of}
-use Rattle.actjoin.specs.Text.{IsFairFor, closes_batch, own_counts, text_from}
-use Rattle.actjoin.specs.declared.script.Outcome.{Outcome}
-use Rattle.actjoin.specs.declared.script.TheConstants.{MOST_BYTES}
-use Rattle.actjoin.specs.declared.ended.Ended.{Ended}
-use Rattle.actjoin.specs.declared.ended.Ended.TheVariants as ended
+use Rattle.act_io.proofs.ByteFacts.{appends-kept, appends-none}
+use Rattle.act_super.specs.States.{nothing}
+use Rattle.act_script.specs.Script.{BadLine, bad_line, script_segments}
+use Rattle.act_script.specs.Text.{least_counts}
+use Rattle.act_script.proofs.CountFacts.{least_counts_are_fair}
+use Rattle.act_words.specs.Words.{Word, fits}
+use Rattle.act_join.specs.Ends.{AnswersRead, Ends, GetsText, GetsTextFront, bad_of}
+use Rattle.act_join.specs.declared.ended.Ended.TheVariants as ended
+use Rattle.actjoin.specs.Ends.{AskFor, HasBadLine, RunEnds, first_bad_text, message_of, status_of}
+use Rattle.actjoin.specs.declared.ending.Ending.{Ending}
+use Rattle.actjoin.specs.declared.ending.Ending.TheVariants as ending
+use Rattle.actjoin.proofs.SettingsFacts.{settings_are_one}
 
--- the counts when each update comes before the batches after it are fair
-own_fair : (o : Outcome) → IsFairFor o (own_counts o)
-own_fair o = fair (length o.reading.zones) (closes_batch o)
-  where
-    fair : (n : ℕ) (closes : Bool) → (length (cond closes (n ∷ []) []) ≡ cond closes 1 0) × All (λ count. (n ≤ count) × (count ≤ n)) (cond closes (n ∷ []) [])
-    fair n true = (refl, one)
-      where
-        one : All (λ count. (n ≤ count) × (count ≤ n)) (n ∷ [])
-        one zero d h = (omega arith, omega arith)
-        one (suc k) d h = absurd (omega arith)
-    fair n false = (refl, λ k d h. absurd (omega arith))
-
--- a whole text is a front of it
+-- a whole text is a front of it, and so is no text
 whole_front : (s : Stream) (text : List ℕ) → Gets s text → GetsFront s text
 whole_front s text h = let all : take (length text) text ≡ text = take_all (length text) text (omega arith) in (length text, rw all h)
 
-text_front : (digits : ℕ) (script : List ℕ) (out : Stream) → GetsText digits script out → GetsTextFront digits script out
-text_front digits script out h = (h.0, h.1, whole_front out _ h.2)
+text_front : (settings : Settings) (script : List ℕ) (out : Stream) → GetsText settings script out → GetsTextFront settings script out
+text_front settings script out h = (h.0, h.1, whole_front out _ h.2)
 
-none_front : (digits : ℕ) (script : List ℕ) (out : Stream) → Gets out [] → GetsTextFront digits script out
-none_front digits script out h = (own_counts (outcome_of digits script), own_fair (outcome_of digits script), (0, h))
+none_front : (settings : Settings) (script : List ℕ) (out : Stream) → Keeps out.old out.new → GetsTextFront settings script out
+none_front settings script out h = (
+  least_counts settings nothing 0 (script_segments settings.digits script),
+  least_counts_are_fair settings script,
+  (0, appends-kept out.old out.old out.new [] (appends-none out.old) h),
+)
 
--- before anything is written
-pub nothing_written : (left written : Option (List ℕ)) (digits f g : ℕ)
-    → IfSome left (λ script. GetsTextFront digits script (record { old = written; new = written; before = f; now = g }))
-nothing_written None written digits f g = tt
-nothing_written (Some script) written digits f g = none_front digits script (record { old = written; new = written; before = f; now = g }) (appends-none written)
+-- how a run by these settings over a known script ends
+abbrev EndsAt : Settings → List ℕ → Stream → Stream → Ending → Type 0
+EndsAt settings script input out ending.Usage = ⊥
+EndsAt settings script input out ending.Unread = Keeps out.old out.new
+EndsAt settings script input out (ending.Run ended.Done) = (input.new ≡ Some []) × (bad_line settings.digits script ≡ None) × GetsText settings script out
+EndsAt settings script input out (ending.Run (ended.BadLine n fault)) = (bad_line settings.digits script ≡ Some (bad_of n fault)) × GetsText settings script out
+EndsAt settings script input out (ending.Run ended.ReadFault) = HasFailed input × GetsTextFront settings script out × AnswersRead settings script input.new out
+EndsAt settings script input out (ending.Run ended.WriteFault) = HasFailed out × GetsTextFront settings script out
+EndsAt settings script input out (ending.Run ended.NoMemory) = GetsTextFront settings script out
 
--- before anything is written of a script
-pub none_answered : (digits : ℕ) (script : List ℕ) (written : Option (List ℕ)) (f g : ℕ)
-    → GetsTextFront digits script (record { old = written; new = written; before = f; now = g })
-none_answered digits script written f g = none_front digits script (record { old = written; new = written; before = f; now = g }) (appends-none written)
+module _ (words : List Word) (input out : Stream) (settings : Settings) (script : List ℕ) where
+  same : (s : Settings) → AskFor words settings → AskFor words s → s ≡ settings
+  same s fit ask = settings_are_one s settings cc
 
--- the text that was made of a script
-module _ (digits : ℕ) (script text : List ℕ) (o : Outcome) (a b : Option (List ℕ)) (f g : ℕ) where
-  text_is : o ≡ outcome_of digits script → text ≡ text_from o (own_counts o) → text ≡ text_from (outcome_of digits script) (own_counts (outcome_of digits script))
-  text_is said made = made ∙ ap (λ o. text_from o (own_counts o)) said
+  pub run_at : (e : Ending) → AskFor words settings → input.old ≡ Some script → RunEnds words input out e → EndsAt settings script input out e
+  run_at ending.Usage fit told h = let none : fits words ≡ None = h.0 in cc
+  run_at ending.Unread fit told h = h.unwritten
+  run_at (ending.Run ended.Done) fit told h =
+      let ends : Ends settings input out ended.Done = subst (λ (s : Settings). Ends s input out ended.Done) (same h.0 fit h.1) h.2 in
+      rw told at ends
+  run_at (ending.Run (ended.BadLine n fault)) fit told h =
+      let ends : Ends settings input out (ended.BadLine n fault) = subst (λ (s : Settings). Ends s input out (ended.BadLine n fault)) (same h.0 fit h.1) h.2 in
+      rw told at ends
+  run_at (ending.Run ended.ReadFault) fit told h =
+      let ends : Ends settings input out ended.ReadFault = subst (λ (s : Settings). Ends s input out ended.ReadFault) (same h.0 fit h.1) h.2 in
+      let read : GetsTextFront settings script out × AnswersRead settings script input.new out = rw told at ends.1 in
+      (ends.0, read.0, read.1)
+  run_at (ending.Run ended.WriteFault) fit told h =
+      let ends : Ends settings input out ended.WriteFault = subst (λ (s : Settings). Ends s input out ended.WriteFault) (same h.0 fit h.1) h.2 in
+      let front : GetsTextFront settings script out = rw told at ends.1 in
+      (ends.0, front)
+  run_at (ending.Run ended.NoMemory) fit told h =
+      let ends : Ends settings input out ended.NoMemory = subst (λ (s : Settings). Ends s input out ended.NoMemory) (same h.0 fit h.1) h.2 in
+      rw told at ends
 
-  pub gets_text : o ≡ outcome_of digits script → text ≡ text_from o (own_counts o) → Appends a b text
-      → GetsText digits script (record { old = a; new = b; before = f; now = g })
-  gets_text said made put = (own_counts (outcome_of digits script), own_fair (outcome_of digits script), rw (text_is said made) at put)
+  pub done_at : (e : Ending) → EndsAt settings script input out e → status_of e ≡ 0
+      → (input.new ≡ Some []) × (bad_line settings.digits script ≡ None) × GetsText settings script out
+  done_at ending.Usage h is = absurd h
+  done_at ending.Unread h is = absurd (omega arith)
+  done_at (ending.Run ended.Done) h is = h
+  done_at (ending.Run (ended.BadLine n fault)) h is = absurd (omega arith)
+  done_at (ending.Run ended.ReadFault) h is = absurd (omega arith)
+  done_at (ending.Run ended.WriteFault) h is = absurd (omega arith)
+  done_at (ending.Run ended.NoMemory) h is = absurd (omega arith)
 
-  pub gets_front : o ≡ outcome_of digits script → text ≡ text_from o (own_counts o) → AppendsFront a b text
-      → GetsTextFront digits script (record { old = a; new = b; before = f; now = g })
-  gets_front said made put = (own_counts (outcome_of digits script), own_fair (outcome_of digits script), rw (text_is said made) at put)
+  pub bad_at : (e : Ending) → EndsAt settings script input out e → status_of e ≡ 2 → HasBadLine settings script × GetsText settings script out
+  bad_at ending.Usage h is = absurd h
+  bad_at ending.Unread h is = absurd (omega arith)
+  bad_at (ending.Run ended.Done) h is = absurd (omega arith)
+  bad_at (ending.Run (ended.BadLine n fault)) h is = (rw h.0 refl, h.1)
+  bad_at (ending.Run ended.ReadFault) h is = absurd (omega arith)
+  bad_at (ending.Run ended.WriteFault) h is = absurd (omega arith)
+  bad_at (ending.Run ended.NoMemory) h is = absurd (omega arith)
 
--- its first bad line
-pub bad_is : (digits : ℕ) (script : List ℕ) (o : Outcome) (bad : Option ℕ) → o ≡ outcome_of digits script → o.bad ≡ bad → bad_line digits script ≡ bad
-bad_is digits script o bad said is = ap (λ (o : Outcome). o.bad) (sym said) ∙ is
+  pub read_at : (e : Ending) → EndsAt settings script input out e → status_of e ≡ 3 → AnswersRead settings script input.new out
+  read_at ending.Usage h is = absurd h
+  read_at ending.Unread h is = absurd (omega arith)
+  read_at (ending.Run ended.Done) h is = absurd (omega arith)
+  read_at (ending.Run (ended.BadLine n fault)) h is = absurd (omega arith)
+  read_at (ending.Run ended.ReadFault) h is = h.2
+  read_at (ending.Run ended.WriteFault) h is = absurd (omega arith)
+  read_at (ending.Run ended.NoMemory) h is = absurd (omega arith)
 
--- the script that was answered is all of the input
-pub answered : (digits : ℕ) (all given : List ℕ) (out : Stream) (e : Ended) (left new : Option (List ℕ)) (f g : ℕ)
-    → IfSome left (λ l. (all ≡ l) × (new ≡ Some [])) → length all ≤ MOST_BYTES → given ≡ all → Answers digits given out e
-    → Ends digits (record { old = left; new = new; before = f; now = g }) out e
-answered digits all given out ended.Done None new f g whole few same h = tt
-answered digits all given out ended.Done (Some script) new f g whole few same h =
-    let is : given ≡ script = same ∙ whole.0 in
-    let fits : length script ≤ MOST_BYTES = rw whole.0 at few in
-    let k : Answers digits script out ended.Done = rw is at h in
-    (whole.1, record { fits = fits; lines = k.0 }, k.1)
-answered digits all given out (ended.BadLine n) None new f g whole few same h = tt
-answered digits all given out (ended.BadLine n) (Some script) new f g whole few same h =
-    let is : given ≡ script = same ∙ whole.0 in
-    let k : Answers digits script out (ended.BadLine n) = rw is at h in
-    (rw whole.0 at few, k.0, k.1)
-answered digits all given out ended.WriteFault None new f g whole few same h = (h.0, tt)
-answered digits all given out ended.WriteFault (Some script) new f g whole few same h =
-    let is : given ≡ script = same ∙ whole.0 in
-    let front : GetsTextFront digits script out = rw is at h.1 in
-    (h.0, front)
-answered digits all given out ended.NoMemory None new f g whole few same h = tt
-answered digits all given out ended.NoMemory (Some script) new f g whole few same h =
-    let is : given ≡ script = same ∙ whole.0 in rw is at h
-answered digits all given out ended.Usage left new f g whole few same h = h
-answered digits all given out ended.TooLong left new f g whole few same h = absurd h
-answered digits all given out ended.ReadFault left new f g whole few same h = absurd h
+  pub front_at : (e : Ending) → EndsAt settings script input out e → GetsTextFront settings script out
+  front_at ending.Usage h = absurd h
+  front_at ending.Unread h = none_front settings script out h
+  front_at (ending.Run ended.Done) h = text_front settings script out h.2
+  front_at (ending.Run (ended.BadLine n fault)) h = text_front settings script out h.1
+  front_at (ending.Run ended.ReadFault) h = h.1
+  front_at (ending.Run ended.WriteFault) h = h.1
+  front_at (ending.Run ended.NoMemory) h = h
 
--- how a run over a known script ends
-abbrev EndsAt : ℕ → List ℕ → Stream → Stream → Ended → Type 0
-EndsAt digits script input out ended.Done = (input.new ≡ Some []) × IsGood digits script × GetsText digits script out
-EndsAt digits script input out (ended.BadLine n) = (length script ≤ MOST_BYTES) × (bad_line digits script ≡ Some n) × GetsText digits script out
-EndsAt digits script input out ended.TooLong = IsTooLong script × Gets out []
-EndsAt digits script input out ended.ReadFault = HasFailed input × Gets out []
-EndsAt digits script input out ended.WriteFault = HasFailed out × GetsTextFront digits script out
-EndsAt digits script input out ended.NoMemory = GetsTextFront digits script out
-EndsAt digits script input out ended.Usage = ⊥
+  no_bad : bad_line settings.digits script ≡ None → HasBadLine settings script → ⊥
+  no_bad none bad = let h = rw none at bad in cc
 
-module _ (input out : Stream) (digits : ℕ) (script : List ℕ) where
-  known : (e : Ended) → input.old ≡ Some script → Ends digits input out e → EndsAt digits script input out e
-  known ended.Done told h = rw told at h
-  known (ended.BadLine n) told h = rw told at h
-  known ended.TooLong told h = let long : IsTooLong script = rw told at h.0 in (long, h.1)
-  known ended.ReadFault told h = h
-  known ended.WriteFault told h = let front : GetsTextFront digits script out = rw told at h.1 in (h.0, front)
-  known ended.NoMemory told h = rw told at h
-  known ended.Usage told h = h
+  some_bad : (bad : BadLine) → bad_line settings.digits script ≡ Some bad → bad_line settings.digits script ≡ None → ⊥
+  some_bad bad is none = cc
 
-  -- a run whose words fit, over a known script
-  pub run_at : (o : Option ℕ) (e : Ended) → o ≡ Some digits → input.old ≡ Some script → RunEnds o input out e → EndsAt digits script input out e
-  run_at o e fit told h = let ends : Ends digits input out e = rw fit at h in known e told ends
+  pub complete_at : (e : Ending) → EndsAt settings script input out e → (HasFailed input → ⊥) → (HasFailed out → ⊥)
+      → (bad_line settings.digits script ≡ None → (status_of e ≡ 0) ⊎ (status_of e ≡ 5)) × (HasBadLine settings script → (status_of e ≡ 2) ⊎ (status_of e ≡ 5))
+  complete_at ending.Usage h ok put = absurd h
+  complete_at ending.Unread h ok put = (λ none. inr refl, λ bad. inr refl)
+  complete_at (ending.Run ended.Done) h ok put = (λ none. inl refl, λ bad. absurd (no_bad h.1 bad))
+  complete_at (ending.Run (ended.BadLine n fault)) h ok put = (λ none. absurd (some_bad (bad_of n fault) h.0 none), λ bad. inl refl)
+  complete_at (ending.Run ended.ReadFault) h ok put = absurd (ok h.0)
+  complete_at (ending.Run ended.WriteFault) h ok put = absurd (put h.0)
+  complete_at (ending.Run ended.NoMemory) h ok put = (λ none. inr refl, λ bad. inr refl)
 
-  pub front_of : (e : Ended) → EndsAt digits script input out e → GetsTextFront digits script out
-  front_of ended.Done h = text_front digits script out h.2
-  front_of (ended.BadLine n) h = text_front digits script out h.2
-  front_of ended.TooLong h = none_front digits script out h.1
-  front_of ended.ReadFault h = none_front digits script out h.1
-  front_of ended.WriteFault h = h.1
-  front_of ended.NoMemory h = h
-  front_of ended.Usage h = absurd h
+  pub bad_text_at : (e : Ending) → EndsAt settings script input out e → status_of e ≡ 2 → message_of e ≡ first_bad_text settings script
+  bad_text_at ending.Usage h is = absurd h
+  bad_text_at ending.Unread h is = absurd (omega arith)
+  bad_text_at (ending.Run ended.Done) h is = absurd (omega arith)
+  bad_text_at (ending.Run (ended.BadLine n fault)) h is = rw h.0 refl
+  bad_text_at (ending.Run ended.ReadFault) h is = absurd (omega arith)
+  bad_text_at (ending.Run ended.WriteFault) h is = absurd (omega arith)
+  bad_text_at (ending.Run ended.NoMemory) h is = absurd (omega arith)
 
-  pub message_is : (e : Ended) → EndsAt digits script input out e → message_of e ≡ error_text (status_of e) digits script
-  message_is ended.Done h = refl
-  message_is (ended.BadLine n) h =
-      let few : nat_lt MOST_BYTES (length script) ≡ false = le-ltb MOST_BYTES (length script) h.0 in
-      rw (few, h.1) refl
-  message_is ended.TooLong h =
-      let many : nat_lt MOST_BYTES (length script) ≡ true = lt-ltb MOST_BYTES (length script) h.0 in
-      rw many refl
-  message_is ended.ReadFault h = refl
-  message_is ended.WriteFault h = refl
-  message_is ended.NoMemory h = refl
-  message_is ended.Usage h = absurd h
+-- the causes of 3 and 4, whatever the words
+module _ (words : List Word) (input out : Stream) where
+  pub read_cause : (e : Ending) → RunEnds words input out e → status_of e ≡ 3 → HasFailed input
+  read_cause ending.Usage h is = absurd (omega arith)
+  read_cause ending.Unread h is = absurd (omega arith)
+  read_cause (ending.Run ended.Done) h is = absurd (omega arith)
+  read_cause (ending.Run (ended.BadLine n fault)) h is = absurd (omega arith)
+  read_cause (ending.Run ended.ReadFault) h is = h.2.0
+  read_cause (ending.Run ended.WriteFault) h is = absurd (omega arith)
+  read_cause (ending.Run ended.NoMemory) h is = absurd (omega arith)
+
+  pub write_cause : (e : Ending) → RunEnds words input out e → status_of e ≡ 4 → HasFailed out
+  write_cause ending.Usage h is = absurd (omega arith)
+  write_cause ending.Unread h is = absurd (omega arith)
+  write_cause (ending.Run ended.Done) h is = absurd (omega arith)
+  write_cause (ending.Run (ended.BadLine n fault)) h is = absurd (omega arith)
+  write_cause (ending.Run ended.ReadFault) h is = absurd (omega arith)
+  write_cause (ending.Run ended.WriteFault) h is = h.2.0
+  write_cause (ending.Run ended.NoMemory) h is = absurd (omega arith)

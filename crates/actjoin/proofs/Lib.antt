@@ -1,7 +1,3 @@
-pub mod ScanFacts
-pub mod LineFacts
-pub mod NumberFacts
-pub mod TextFacts
 pub mod PutFacts
+pub mod SettingsFacts
 pub mod EndFacts
-pub mod ZoneFacts

@@ -1,9 +1,2 @@
-pub mod Lines
-pub mod Fields
-pub mod Items
-pub mod Content
-pub mod Zones
-pub mod Outcomes
-pub mod Text
-pub mod Words
+pub mod Faults
 pub mod Ends

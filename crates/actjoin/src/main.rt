@@ -1,25 +1,18 @@
 //! Joins the points of a script with its zones.
 //!
-//! The script comes from standard input: `zone` lines with polygons in WKT, a `sync`, and `point`
-//! lines. The text goes to standard output: one reply for each zone, and for a batch of points a
-//! line for each pair of a point and a zone that it is inside.
+//! The script comes from standard input: zones with polygons in WKT that come, go and are replaced,
+//! and batches of points. The text goes to standard output: one reply for each update of the zones,
+//! and for each batch a line for each pair of a point and a zone that it is inside.
 //!
 //! [`act_main`] is the whole run from bytes to bytes: its contract says what is written at each
 //! exit status. `main` hands it the standard streams.
 #![tactic(auto)]
 
-mod ended;
-mod fields;
-mod item;
-mod lines;
-mod reading;
+mod ending;
+mod message;
 mod run;
-mod script;
 #[cfg(test)]
 mod tests;
-mod text;
-mod words;
-mod zones;
 
 use act_io::{NoGate, StdSink, StdSource};
 use run::act_main;
