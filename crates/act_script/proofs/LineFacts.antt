@@ -1,6 +1,7 @@
 -- Lines whose bytes come one piece after another.
 use Rattle.std.proofs.Common.{◌≡◌, ◌≢◌, ◌==◌, ◌&&◌, ◌≤◌, ◌<◌, ◌+◌, ℕ, Bool, true, false, List, [], ◌∷◌, ◌++◌, None, refl, sym, ap, ◌∙◌, cond, length, length-append, length-drop, arith, append_assoc, take, drop}
-use Rattle.std.proofs.lemmas.List.{append-nil, drop_all, take-append-drop}
+use Rattle.std.proofs.Math.Seq.{take-append-add}
+use Rattle.std.proofs.lemmas.List.{append-nil, drop_all, length-take-le, take-append-drop}
 use Rattle.std.proofs.lemmas.Bool.{le-ltb, lt-ltb, ne_eqb}
 use Rattle.act_script.specs.Lines.{Line, cut_from, is_mark, line_onto, lines_of, onto_first, refused, without_mark, without_return}
 use Rattle.std.specs.Prelude.{is_ok, is_err, Result, slice_range}
@@ -140,17 +141,20 @@ line_first n line rest o few short =
     ∙ cut_line n (unmarked n line) (lines_of rest) few short
     ∙ ap (λ bytes. line_onto (without_return (unmarked n line)) (cut_from (n + 1) (lines_of bytes))) (sym (unmarked-later n rest))
 
--- a piece that ends the line at hand
-pub line_taken : (n : ℕ) (held piece rest : List ℕ) (size : ℕ) → IsOpen held → IsLineLen piece size → size < length piece → n ≢ MOST_LINES
-    → length (unmarked n (held ++ take size piece)) ≤ MOST_BYTES
-    → cut_from n (lines_of (unmarked n (held ++ (piece ++ rest))))
-    ≡ line_onto (without_return (unmarked n (held ++ take size piece))) (cut_from (n + 1) (lines_of (unmarked (n + 1) (drop (size + 1) piece ++ rest))))
-line_taken n held piece rest size o len feed few short =
-    ap (λ bytes. cut_from n (lines_of (unmarked n bytes))) (apart held piece (take size piece) (drop (size + 1) piece) (len.feed feed))
-    ∙ line_first n (held ++ take size piece) (drop (size + 1) piece ++ rest) (open_append held (take size piece) o len.open_front) few short
-  where
-    apart : (held piece front after : List ℕ) → piece ≡ front ++ 10 ∷ after → held ++ (piece ++ rest) ≡ (held ++ front) ++ 10 ∷ (after ++ rest)
-    apart held piece front after e = ap (λ p. held ++ (p ++ rest)) e ∙ ap (λ p. held ++ p) (append_assoc front (10 ∷ after) rest) ∙ sym (append_assoc held front (10 ∷ (after ++ rest)))
+-- bytes that end the line at hand
+line_taken : (n : ℕ) (held front rest : List ℕ) → IsOpen held → IsOpen front → n ≢ MOST_LINES → length (unmarked n (held ++ front)) ≤ MOST_BYTES
+    → cut_from n (lines_of (unmarked n (held ++ ((front ++ 10 ∷ []) ++ rest))))
+    ≡ line_onto (without_return (unmarked n (held ++ front))) (cut_from (n + 1) (lines_of (unmarked (n + 1) rest)))
+line_taken n held front rest o open_front few short =
+    ap (λ bytes. cut_from n (lines_of (unmarked n bytes))) (ap (λ p. held ++ p) (append_assoc front (10 ∷ []) rest) ∙ sym (append_assoc held front (10 ∷ rest)))
+    ∙ line_first n (held ++ front) rest (open_append held front o open_front) few short
+
+-- a piece up to its first line feed, and with it
+taken_feed : (piece front after : List ℕ) (size : ℕ) → length front ≡ size → piece ≡ front ++ 10 ∷ after → take (size + 1) piece ≡ front ++ 10 ∷ []
+taken_feed piece front after size len e = rw (e, ← len) (take-append-add front (10 ∷ after) 1)
+
+pub part_feed : (piece : List ℕ) (size : ℕ) → IsLineLen piece size → size < length piece → take (size + 1) piece ≡ take size piece ++ 10 ∷ []
+part_feed piece size len feed = taken_feed piece (take size piece) (drop (size + 1) piece) size (length-take-le size piece len.within) (len.feed feed)
 
 -- bytes of the line at hand that are too many, whatever comes
 pub line_too_long : (n : ℕ) (line rest : List ℕ) → IsOpen line → n ≢ MOST_LINES → MOST_BYTES < length (unmarked n line)
@@ -195,10 +199,10 @@ long_cause old piece held size start none o few len e mark long rest =
 pub part_taken : (old new : Cutting) (piece held : List ℕ) (size start end : ℕ) → old.fault ≡ None → IsOpen old.held → old.number ≢ MOST_LINES → IsLineLen piece size
     → size < length piece → held ≡ old.held ++ take size piece → unmarked old.number held ≡ drop start held → length (drop start held) ≤ MOST_BYTES
     → slice_range held start end ≡ without_return (drop start held) → new.number ≡ old.number + 1 → new.held ≡ [] → new.fault ≡ None → new.line ≡ slice_range held start end
-    → (rest : List ℕ) → to_come old (piece ++ rest) ≡ line_onto new.line (to_come new (drop (size + 1) piece ++ rest))
+    → (rest : List ℕ) → to_come old (take (size + 1) piece ++ rest) ≡ line_onto new.line (to_come new rest)
 part_taken old new piece held size start end none o few len feed e mark short line number nothing free last rest =
     let same : unmarked old.number (old.held ++ take size piece) ≡ drop start held = ap (unmarked old.number) (sym e) ∙ mark in
-    rw (none, free, last, line, number, nothing, ← same) (line_taken old.number old.held piece rest size o len feed few (rw same short))
+    rw (part_feed piece size len feed, none, free, last, line, number, nothing, ← same) (line_taken old.number old.held (take size piece) rest o len.open_front few (rw same short))
 
 -- ---- the end of the input
 
@@ -219,8 +223,8 @@ pub last_taken : (old new : Cutting) (start end : ℕ) → old.fault ≡ None �
     → unmarked old.number old.held ≡ drop start old.held → length (unmarked old.number old.held) ≤ MOST_BYTES → start < length old.held
     → slice_range old.held start end ≡ without_return (drop start old.held) → new.held ≡ [] → new.fault ≡ None → new.number ≡ old.number + 1
     → new.line ≡ slice_range old.held start end
-    → to_come old [] ≡ line_onto new.line (to_come new [])
+    → to_come old [] ≡ record { lines = new.line ∷ []; fault = None }
 last_taken old new start end none o few mark short some line nothing free number last =
     let left : 0 < length (unmarked old.number old.held) = rw mark (omega (arith, length-drop start old.held)) in
-    rw (none, free, last, line, nothing, number, unmarked-later old.number [], append-nil old.held, ← mark)
+    rw (none, last, line, append-nil old.held, ← mark)
     (left_line old.number (unmarked old.number old.held) (open_unmarked old.number old.held o) left few short)

@@ -45,13 +45,16 @@ pub record IsInLimits (cutting : Cutting) : Type 0 where
 abbrev pub turns : Cutting → ℕ
 turns cutting = (MOST_LINES - cutting.number) * (MOST_BYTES + 4) + (MOST_BYTES + 3 - length cutting.held)
 
+-- bytes whose last one is a line feed
+abbrev pub EndsInFeed : List ℕ → Type 0
+EndsInFeed bytes = (front : List ℕ) × (bytes ≡ front ++ 10 ∷ [])
+
 -- a piece was taken up to the end of a line, or whole
 abbrev pub TakesPart : Cutting → List ℕ → Taken → Cutting → Type 0
 TakesPart old piece taken new = MatchBool taken.line
-    ((new.number ≡ old.number + 1) × (0 < taken.used) × (taken.used ≤ length piece)
-    × ((rest : List ℕ) → to_come old (piece ++ rest) ≡ line_onto new.line (to_come new (drop taken.used piece ++ rest))))
-    ((new.number ≡ old.number) × (taken.used ≡ length piece)
-    × ((rest : List ℕ) → to_come old (piece ++ rest) ≡ to_come new rest))
+    ((new.number ≡ old.number + 1) × (0 < taken.used) × (taken.used ≤ length piece) × EndsInFeed (take taken.used piece) × (new.held ≡ [])
+    × ((rest : List ℕ) → to_come old (take taken.used piece ++ rest) ≡ line_onto new.line (to_come new rest)))
+    ((taken.used ≡ length piece) × (new ≡ record old { held = old.held ++ piece }))
 
 -- a fault is that of the line at hand, whatever comes after the piece
 abbrev pub IsCause : Cutting → List ℕ → CutFault → Type 0
@@ -61,5 +64,5 @@ IsCause old piece fault.NoMemory = Unit {0}
 
 -- at the end of the input a line is left, which is then the last, or none is
 abbrev pub TakesEnd : Cutting → Bool → Cutting → Type 0
-TakesEnd old true new = (new.number ≡ old.number + 1) × (to_come old [] ≡ line_onto new.line (to_come new []))
+TakesEnd old true new = (new.number ≡ old.number + 1) × (to_come old [] ≡ record { lines = new.line ∷ []; fault = None })
 TakesEnd old false new = (new ≡ old) × (to_come old [] ≡ record { lines = []; fault = None })

@@ -2,7 +2,7 @@ use Rattle.std.proofs.Common.{◌≡◌, ◌++◌, ◌+◌, ◌∙◌, ◌<◌, 
 use Rattle.std.specs.Prelude.{slice_range}
 use Rattle.act_script.specs.Cutting.{Cutting}
 use Rattle.act_script.specs.Cutter.{cutting_of}
-use Rattle.act_script.proofs.LineFacts.{added, long_cause, part_taken}
+use Rattle.act_script.proofs.LineFacts.{added, long_cause, part_feed, part_taken}
 use Rattle.act_script.proofs.cutter.Cutter.take.Goals as goal
 
 pub returns-then-len-start-gt-MOST_BYTES-clause-cause :
@@ -39,6 +39,8 @@ returns-clause-takes c =
       rw (← c.self.view_is) refl,
       omega arith,
       omega arith,
+      (take size piece, part_feed piece size c.line_len-size.ensures feed),
+      c.clear.ensures.items,
       rw (← c.self.view_is)
           (part_taken (cutting_of c.self.inside) new piece bytes size start c.line_end-self-inside.result none c.self.invariant.open_held c.if-self.false c.line_len-size.ensures
           feed held mark short line refl c.clear.ensures.items none last),
