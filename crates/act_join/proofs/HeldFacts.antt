@@ -37,12 +37,12 @@ held_is held [] = ap (λ n. record held { updates = n }) (omega arith)
 held_is held (first ∷ steps) = held_is (after_step held first) steps ∙ steps_step held first steps
 
 -- the state after more entries
-state_more : (state : State) (xs ys : List Entry) → state_from state (xs ++ ys) ≡ state_from (state_from state xs) ys
+pub state_more : (state : State) (xs ys : List Entry) → state_from state (xs ++ ys) ≡ state_from (state_from state xs) ys
 state_more state [] ys = refl
 state_more state (x ∷ xs) ys = state_more (after state x) xs ys
 
 -- an update that is asked for is an update of the history
-asks_update : (asked : Update) → is_update (entry_of asked) ≡ true
+pub asks_update : (asked : Update) → is_update (entry_of asked) ≡ true
 asks_update (update.Add key shape) = refl
 asks_update (update.DropZone key) = refl
 asks_update (update.Replace key shape) = refl
@@ -67,7 +67,7 @@ zones_by_updates s t (entry.Replace key shape ∷ xs) same =
 zones_by_updates s t (entry.Train cells ∷ xs) same = zones_by_updates s (after t (entry.Train cells)) xs same
 
 -- a history goes on with an update where it is accepted
-leads_if : (b : Bool) (settings : Settings) (state : State) (n : ℕ) (asked : Entry) (before : List Entry) → is_update asked ≡ true → state_of before ≡ state → length (filter is_update before) ≡ n
+pub leads_if : (b : Bool) (settings : Settings) (state : State) (n : ℕ) (asked : Entry) (before : List Entry) → is_update asked ≡ true → state_of before ≡ state → length (filter is_update before) ≡ n
     → (state_of (before ++ (if b then asked ∷ [] else [])) ≡ (if b then after state asked else state)) × (length (filter is_update (before ++ (if b then asked ∷ [] else []))) ≡ (if b then n + 1 else n))
 leads_if true settings state n asked before is at many =
     let one : filter is_update (asked ∷ []) ≡ asked ∷ [] = rw is refl in (

@@ -4,4 +4,7 @@ pub mod HitFacts
 pub mod HeldFacts
 pub mod ReplyFacts
 pub mod TextFacts
+pub mod AnswerFacts
+pub mod FeedFacts
+pub mod PieceFacts
 pub mod EndFacts

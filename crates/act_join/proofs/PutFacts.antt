@@ -16,14 +16,14 @@ abbrev pub between : Option (List ℕ) → Option (List ℕ) → ℕ → ℕ →
 between a b f g = record { old = a; new = b; before = f; now = g }
 
 -- a front of the first text is one of both
-front_first : (a b : Option (List ℕ)) (x y : List ℕ) → AppendsFront a b x → AppendsFront a b (x ++ y)
+pub front_first : (a b : Option (List ℕ)) (x y : List ℕ) → AppendsFront a b x → AppendsFront a b (x ++ y)
 front_first a b x y h =
     let n = min h.0 (length x) in
     let same : take n (x ++ y) ≡ take h.0 x = take-append-le n x y (omega arith) ∙ take_min h.0 x in
     (n, rw same h.1)
 
 -- the first text and a front of the second
-front_second : (a b c : Option (List ℕ)) (x y : List ℕ) → Appends a b x → AppendsFront b c y → AppendsFront a c (x ++ y)
+pub front_second : (a b c : Option (List ℕ)) (x y : List ℕ) → Appends a b x → AppendsFront b c y → AppendsFront a c (x ++ y)
 front_second a b c x y h k =
     (length x + k.0, rw (take-append-add x y k.0) (appends-more a b c x (take k.0 y) (x ++ take k.0 y) h k.1 refl))
 

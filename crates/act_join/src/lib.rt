@@ -16,6 +16,7 @@ mod decider;
 mod driver;
 mod ended;
 mod fault;
+mod progress;
 mod put;
 mod run;
 #[cfg(test)]
