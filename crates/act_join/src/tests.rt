@@ -1,120 +1,70 @@
-//! Scripts with their replies, digits 0.
+//! Whole scripts, digits 0.
 
-ghost use Rattle.std.specs.Prelude.{◌≤◌, ◌<◌, ◌+◌, ◌^◌, OnOk, length};
-ghost use Rattle.act_script.specs.Cutting.{IsOpen};
-ghost use Rattle.act_script.specs.declared.cutter.TheConstants.{MOST_BYTES};
+ghost use Rattle.std.specs.Prelude.{◌<◌};
 
-use crate::{Run, SegmentFault};
+use crate::{Ended, ScriptFault, engine};
 use act_grid::Settings;
-use act_io::{MemSink, NoGate};
-use act_script::{Cutter, Segment, Segmenter, read_line};
+use act_io::{MemSink, MemSource, NoGate, Sink, Source, SureSink, SureSource};
+use act_script::{CutFault, LineFault};
 use std::alloc::Global;
 use std::test::Fail;
 use std::thread::Threads;
 
-/// Why a script was not run to its end.
-#[derive(Clone, Copy, Debug, PartialEq, Eq)]
-enum Stop {
-    Line,
-    Write,
-    Memory,
-}
+/// A zone, the end of its segment, and four points.
+const FOUR_POINTS: &str =
+    "zone,7,\"POLYGON((0 0,10 0,10 10,0 10,0 0))\"\nsync\npoint,1,0,0\npoint,2,10,0\npoint,3,0,10\npoint,4,9,9";
 
-/// Takes one line, and runs the segment that it closes.
-fn take_line<T: Threads + Sync>(
+const FOUR_POINTS_TEXT: &str = "zone 7 ok\nbatch 1 after 1 points 4\n1,7\n4,7\n";
+
+/// Runs the script of an input.
+fn run<T: Threads + Sync, S: Source, K: Sink>(
     rt: &T,
     alloc: Global,
-    segmenter: &mut Segmenter,
-    line: &[u8],
-    run: &mut Run,
-    out: &mut MemSink,
-) -> Result<(), Stop>
-    requires number { segmenter.old.number < 2 ^ 32 }
-    requires short { length line.now ≤ MOST_BYTES }
-    requires one { IsOpen line.now }
-    ensures { OnOk result (segmenter.new.number ≤ segmenter.old.number + 1) }
-{
-    let Ok(read) = read_line(alloc, line, 0) else {
-        return Err(Stop::Line);
-    };
-    let Some(item) = read else {
-        return Ok(());
-    };
-    match segmenter.push(item) {
-        Ok(Some(segment)) => run_segment(rt, run, segment, out),
-        Ok(None) => Ok(()),
-        Err(_) => Err(Stop::Memory),
+    input: &mut S,
+    out: &mut K,
+) -> Ended {
+    match Settings::new(0, 16_384, 64, 4) {
+        Some(settings) => engine(rt, alloc, settings, input, out, &NoGate),
+        None => Ended::NoMemory,
     }
 }
 
-fn run_segment<T: Threads + Sync>(
-    rt: &T,
-    run: &mut Run,
-    segment: Segment,
-    out: &mut MemSink,
-) -> Result<(), Stop> {
-    match run.segment(rt, segment, out, &NoGate) {
-        Ok(()) => Ok(()),
-        Err(SegmentFault::WriteFault) => Err(Stop::Write),
-        Err(SegmentFault::NoMemory) => Err(Stop::Memory),
-    }
-}
-
-/// Runs the lines of a script, each of which ends in a line feed.
-fn take_script<T: Threads + Sync>(
-    rt: &T,
-    alloc: Global,
-    segmenter: &mut Segmenter,
-    script: &[u8],
-    run: &mut Run,
-    out: &mut MemSink,
-) -> Result<(), Stop>
-    requires first { segmenter.old.number ≤ 0 }
-{
-    let mut cutter = Cutter::new(alloc);
-    let mut rest = script;
-    while !rest.is_empty() {
-        match cutter.take(rest) {
-            Ok(taken) => {
-                if taken.line {
-                    take_line(rt, alloc, segmenter, cutter.line(), run, out)?;
-                }
-                rest = &rest[taken.used..];
-            }
-            Err(_) => return Err(Stop::Line),
-        }
-    }
-    Ok(())
-}
-
-/// Runs a script.
-fn run_script<T: Threads + Sync>(
+/// Runs a script that comes in pieces of at most so many bytes, and keeps what was written.
+fn run_pieces<T: Threads + Sync>(
     rt: &T,
     alloc: Global,
     script: &[u8],
-    out: &mut MemSink,
-) -> Result<(), Stop> {
-    let Some(settings) = Settings::new(0, 16_384, 64, 4) else {
-        return Err(Stop::Line);
-    };
-    let Ok(mut run) = Run::new(alloc, settings) else {
-        return Err(Stop::Memory);
-    };
-    let mut segmenter = Segmenter::new(alloc);
-    take_script(rt, alloc, &mut segmenter, script, &mut run, out)?;
-    match segmenter.finish() {
-        Ok(Some(segment)) => run_segment(rt, &mut run, segment, out),
-        Ok(None) => Ok(()),
-        Err(_) => Err(Stop::Memory),
-    }
+    piece: usize,
+) -> Result<(Ended, MemSink), Fail>
+    requires { 0 < piece }
+{
+    let mut input = MemSource::new(alloc, script, piece, [].as_slice())?;
+    let mut out = MemSink::new(alloc, 4096, 100, [].as_slice())?;
+    let ended = run(rt, alloc, &mut input, &mut out);
+    Ok((ended, out))
 }
 
 #[test]
 fn scripts_have_their_replies(rt: HostRuntime) -> Result<(), Fail> {
     let alloc = rt.alloc();
+    let large = "\"POLYGON((0 0,10 0,10 10,0 10,0 0))\"\n";
     let square = "\"POLYGON((0 0,9 0,9 9,0 9,0 0))\"\n";
     let small = "\"POLYGON((0 0,4 0,4 4,0 4,0 0))\"\n";
     let cases = [
+        (format!(in alloc; "{FOUR_POINTS}")?, FOUR_POINTS_TEXT),
+        (format!(in alloc; "")?, ""),
+        (
+            format!(in alloc;
+                "zone,7,{large}zone,8,\"POLYGON((10 0,20 0,20 10,10 10,10 0))\"\nsync\npoint,1,10,5"
+            )?,
+            "zone 7 ok\nzone 8 ok\nbatch 1 after 2 points 1\n1,8\n",
+        ),
+        (
+            format!(in alloc;
+                "zone,7,\"POLYGON((0 0,10 0,10 10,0 10,0 0),(2 2,2 8,8 8,8 2,2 2))\"\nsync\npoint,1,2,2\npoint,2,8,8\npoint,3,1,5\n"
+            )?,
+            "zone 7 ok\nbatch 1 after 1 points 3\n2,7\n3,7\n",
+        ),
         (
             format!(in alloc; "zone,7,{square}zone,7,{square}drop,9\n")?,
             "zone 7 ok\nzone 7 refused duplicate\ndrop 9 refused unknown\n",
@@ -147,11 +97,111 @@ fn scripts_have_their_replies(rt: HostRuntime) -> Result<(), Fail> {
         ),
     ];
     for (script, wanted) in &cases {
-        let mut out = MemSink::new(alloc, 4096, 100, [].as_slice())?;
-        let ran = run_script(&rt, alloc, script.as_str().as_bytes(), &mut out);
-        assert_eq!(rt; ran, Ok(()));
+        for piece in [1, 7, 4096] {
+            let (ended, out) = run_pieces(&rt, alloc, script.as_str().as_bytes(), piece)?;
+            assert_eq!(rt; ended, Ended::Done);
+            assert_eq!(rt; out.bytes(), wanted.as_bytes());
+        }
+    }
+    Ok(())
+}
+
+#[test]
+fn a_bad_line_ends_the_run(rt: HostRuntime) -> Result<(), Fail> {
+    let alloc = rt.alloc();
+    let zone = "zone,7,\"POLYGON((0 0,10 0,10 10,0 10,0 0))\"\n";
+    let cases = [
+        (
+            format!(in alloc; "{zone}sync\nzone,8,\"POLYGON((0 0,10")?,
+            3,
+            LineFault::Fields,
+            "zone 7 ok\n",
+        ),
+        (
+            format!(in alloc; "{zone}none\nsync\n")?,
+            2,
+            LineFault::Kind,
+            "",
+        ),
+        (
+            format!(in alloc; "\n \n{zone}sync\n\ndrop,x\nnone")?,
+            6,
+            LineFault::Key,
+            "zone 7 ok\n",
+        ),
+    ];
+    for (script, line, fault, wanted) in &cases {
+        for piece in [1, 7, 4096] {
+            let (ended, out) = run_pieces(&rt, alloc, script.as_str().as_bytes(), piece)?;
+            let bad = Ended::BadLine {
+                line: *line,
+                fault: ScriptFault::Line(*fault),
+            };
+            assert_eq!(rt; ended, bad);
+            assert_eq!(rt; out.bytes(), wanted.as_bytes());
+        }
+    }
+    Ok(())
+}
+
+#[test]
+fn the_longest_line(rt: HostRuntime) -> Result<(), Fail> {
+    let alloc = rt.alloc();
+    let kind = ScriptFault::Line(LineFault::Kind);
+    let long = ScriptFault::Cut(CutFault::LineLong);
+    let cases = [
+        (0, 16_777_216, 1, kind),
+        (0, 16_777_217, 1, long),
+        (2, 16_777_217, 3, long),
+    ];
+    for (blank, bytes, line, fault) in cases {
+        let mut script = vec![in alloc; b'\n'; blank]?;
+        let text = vec![in alloc; b'x'; bytes]?;
+        script.extend_from_slice(&text)?;
+        let (ended, out) = run_pieces(&rt, alloc, &script, 1 << 25)?;
+        assert_eq!(rt; ended, Ended::BadLine { line, fault });
+        assert_eq!(rt; out.bytes(), b"".as_slice());
+    }
+    Ok(())
+}
+
+#[test]
+fn many_blank_lines(rt: HostRuntime) -> Result<(), Fail> {
+    let script = vec![in rt.alloc(); b'\n'; 16_777_217]?;
+    let (ended, out) = run_pieces(&rt, rt.alloc(), &script, 1 << 25)?;
+    assert_eq!(rt; ended, Ended::Done);
+    assert_eq!(rt; out.bytes(), b"".as_slice());
+    Ok(())
+}
+
+#[test]
+fn faults_end_the_run(rt: HostRuntime) -> Result<(), Fail> {
+    let alloc = rt.alloc();
+    let script = FOUR_POINTS.as_bytes();
+    // Bytes of a read, the read that fails, and what is written: line 2 ends with the byte 49.
+    for (piece, fails, wanted) in [(8, 3u64, ""), (1, 49, ""), (1, 50, "zone 7 ok\n")] {
+        let mut input = MemSource::new(alloc, script, piece, [fails].as_slice())?;
+        let mut out = MemSink::new(alloc, 100, 100, [].as_slice())?;
+        let ended = run(&rt, alloc, &mut input, &mut out);
+        assert_eq!(rt; ended, Ended::ReadFault);
         assert_eq!(rt; out.bytes(), wanted.as_bytes());
     }
+    let mut input = MemSource::new(alloc, script, 100, [].as_slice())?;
+    let mut out = MemSink::new(alloc, 100, 4, [2u64].as_slice())?;
+    let ended = run(&rt, alloc, &mut input, &mut out);
+    assert_eq!(rt; ended, Ended::WriteFault);
+    assert_eq!(rt; out.bytes(), b"zone".as_slice());
+    Ok(())
+}
+
+#[test]
+fn sure_ends_take_all(rt: HostRuntime) -> Result<(), Fail> {
+    let alloc = rt.alloc();
+    let mut input = SureSource::new(alloc, FOUR_POINTS.as_bytes())?;
+    let mut out = SureSink::new();
+    assert_eq!(rt; run(&rt, alloc, &mut input, &mut out), Ended::Done);
+    assert_eq!(rt; out.count(), FOUR_POINTS_TEXT.len() as u64);
+    assert_eq!(rt; out.count(), 43);
     Ok(())
 }
 
@@ -163,16 +213,16 @@ fn a_long_answer_is_written_in_pieces(rt: HostRuntime) -> Result<(), Fail> {
     for _ in 0..8000 {
         script.extend_from_slice(b"point,123456789,5,5\n")?;
     }
+    let mut input = MemSource::new(alloc, &script, 100_000, [].as_slice())?;
     let mut out = MemSink::new(alloc, 100_000, 100_000, [].as_slice())?;
-    assert_eq!(rt; run_script(&rt, alloc, &script, &mut out), Ok(()));
+    assert_eq!(rt; run(&rt, alloc, &mut input, &mut out), Ended::Done);
     let head = "zone 7 ok\nbatch 1 after 1 points 8000\n".len();
     assert_eq!(rt; out.bytes().len(), head + 8000 * 12);
     // The second of the writes fails.
+    let mut again = MemSource::new(alloc, &script, 100_000, [].as_slice())?;
     let mut broken = MemSink::new(alloc, 100_000, 100_000, [2u64].as_slice())?;
-    assert_eq!(rt;
-        run_script(&rt, alloc, &script, &mut broken),
-        Err(Stop::Write)
-    );
+    let ended = run(&rt, alloc, &mut again, &mut broken);
+    assert_eq!(rt; ended, Ended::WriteFault);
     assert!(rt; broken.bytes().len() >= 65_536);
     assert!(rt; broken.bytes().len() < 65_600);
     Ok(())
