@@ -54,7 +54,7 @@ is_first settings start is =
 -- ---- where reading stopped
 
 -- the bytes that are left, where they are told
-abbrev pub left_of : Option (List ℕ) → List ℕ
+abbrev left_of : Option (List ℕ) → List ℕ
 left_of rest = unwrap_or rest []
 
 first_stopped : (e : Ended) (settings : Settings) (bytes : List ℕ) (left rest : Option (List ℕ)) (p q : ℕ) (a b : Option (List ℕ)) (f g : ℕ) → Consumes left rest bytes
@@ -152,11 +152,8 @@ first_failed settings now bytes (Some script) (Some more) a b f g consumed none 
 
 -- ---- the same where a run begins before the first byte
 
-abbrev pub FedFrom : Settings → Progress → List ℕ → Progress → Option (List ℕ) → Option (List ℕ) → Type 0
-FedFrom settings start bytes now a b = Feeds settings.digits start bytes now a b
-
 pub stopped_there : (e : Ended) (settings : Settings) (start now : Progress) (bytes piece : List ℕ) (left mid rest : Option (List ℕ)) (p q : ℕ) (a b c : Option (List ℕ)) (f g h : ℕ) → IsStart settings start
-    → Consumes left mid bytes → Consumes mid rest piece → FedFrom settings start bytes now a b → f ≤ g
+    → Consumes left mid bytes → Consumes mid rest piece → Feeds settings.digits start bytes now a b → f ≤ g
     → ((more : List ℕ) → Stops (content_from settings.digits now.cutter (piece ++ more)) now (between b c g h) e)
     → Ends settings (between left rest p q) (between a c f h) e
 stopped_there e settings start now bytes piece left mid rest p q a b c f g h is consumed next fed later stops =
@@ -165,14 +162,14 @@ stopped_there e settings start now bytes piece left mid rest p q a b c f g h is 
     (fed_stopped e settings.digits (first settings) now bytes piece a b c f g h fed later stops (left_of rest))
 
 pub closed_there : (r : Result (Unit {0}) Ended) (settings : Settings) (start now : Progress) (bytes : List ℕ) (left mid rest : Option (List ℕ)) (p q : ℕ) (a b c : Option (List ℕ)) (f g h : ℕ) → IsStart settings start
-    → Consumes left mid bytes → Consumes mid rest [] → IsAtEnd rest → FedFrom settings start bytes now a b → f ≤ g → Closes settings.digits now (between b c g h) r
+    → Consumes left mid bytes → Consumes mid rest [] → IsAtEnd rest → Feeds settings.digits start bytes now a b → f ≤ g → Closes settings.digits now (between b c g h) r
     → Ends settings (between left rest p q) (between a c f h) (ended_of r)
 closed_there r settings start now bytes left mid rest p q a b c f g h is consumed next end fed later closes =
     first_closed r settings now bytes left rest p q a b c f g h (consumes-more left mid rest bytes [] bytes consumed next (sym (append-nil bytes))) end
     (subst (λ (at : Progress). Feeds settings.digits at bytes now a b) (is_first settings start is) fed) later closes
 
 pub failed_there : (settings : Settings) (start now : Progress) (bytes : List ℕ) (left mid rest a b : Option (List ℕ)) (p q f g : ℕ) → IsStart settings start → Consumes left mid bytes → Keeps mid rest
-    → IsOpen now.cutter.held → FedFrom settings start bytes now a b → HasFailed (between left rest p q)
+    → IsOpen now.cutter.held → Feeds settings.digits start bytes now a b → HasFailed (between left rest p q)
     → Ends settings (between left rest p q) (between a b f g) ended.ReadFault
 failed_there settings start now bytes left mid rest a b p q f g is consumed same none fed failed =
     (failed, first_failed settings now bytes left rest a b f g (consumes-kept left mid rest bytes consumed same) none (subst (λ (at : Progress). Feeds settings.digits at bytes now a b) (is_first settings start is) fed))

@@ -1,4 +1,7 @@
-//! Runs the segments of a script: decides updates, answers batches, and writes the replies.
+//! Runs the script of an input: cuts its lines, decides updates, answers batches, and writes the replies.
+//!
+//! The script is read in pieces. Each piece goes through the cutter, the lines and the segmenter of
+//! `act_script`, and a segment is run as soon as a line closes it, before the next piece is read.
 //!
 //! The steps of a segment are done in the order of the script, one after another. An update is prepared and
 //! committed, or turned away. A batch is answered over the zones that stand when it is reached, by testing
@@ -6,10 +9,9 @@
 //! Replies gather in one buffer, which is written at the end of a line once it has 64 KiB, and at the end
 //! of the segment, so that a great answer needs no great buffer.
 //!
-//! The layers above use one contract: `Run::segment` writes exactly the text of the segment for one list
-//! of fair counts, or a front of it where the output fails or memory runs out. For example the steps of
-//! `zone,7,"POLYGON((0 0,9 0,9 9,0 9,0 0))"` and `point,1,5,5` give `zone 7 ok`, `batch 1 after 1 points 1`
-//! and `1,7`, each with a line feed.
+//! The layer above uses one contract: `engine` answers one `Ended`, and `Ends` says for each what was read
+//! and which text was written. For example the script `zone,7,"POLYGON((0 0,9 0,9 9,0 9,0 0))"`, line feed,
+//! `point,1,5,5` gives `zone 7 ok`, `batch 1 after 1 points 1` and `1,7`, each with a line feed, and `Done`.
 #![tactic(auto)]
 
 mod decider;

@@ -228,7 +228,7 @@ impl Progress {
         ensures later { OnOk result (K.faults out.old ≤ K.faults out.new) }
     {
         match self.segmenter.finish() {
-            Ok(given) => run_given(rt, &mut self.run, given, out, gate),
+            Ok(last) => run_given(rt, &mut self.run, last, out, gate),
             Err(NoMemory) => Err(Ended::NoMemory),
         }
     }

@@ -17,6 +17,9 @@ loop-rest-init g c = record {
 turns_on : (new used mid all first left next : ℕ) → new + used ≤ mid → mid + all ≤ first + left → used ≤ left → next ≡ left - used → new + all ≤ first + next
 turns_on new used mid all first left next h k within e = omega arith
 
+left_after : (rest next : List ℕ) (used : ℕ) → next ≡ drop used rest → length next ≡ length rest - used
+left_after rest next used k = ap length k ∙ length-drop used rest
+
 taken_on : (piece taken rest next : List ℕ) (used : ℕ) → piece ≡ taken ++ rest → next ≡ drop used rest → piece ≡ (taken ++ take used rest) ++ next
 taken_on piece taken rest next used e k =
     e ∙ ap (λ (l : List ℕ). taken ++ l) (sym (take-append-drop used rest)) ∙ sym (append_assoc taken (take used rest) (drop used rest))
@@ -29,7 +32,7 @@ loop-rest-preserved g c =
     let used = c.in-Ok.used in
     let written = g.K.Sink.written in
     let taken = inv.feeds.0 in
-    let left : length c.after-rest.result.now ≡ length rest - used = ap length c.after-rest.ensures ∙ length-drop used rest in
+    let left : length c.after-rest.result.now ≡ length rest - used = left_after rest c.after-rest.result.now used c.after-rest.ensures in
     record {
       within = c.in-Ok.ensures.within;
       later = omega (arith, inv.later, c.in-Ok.ensures.later);
