@@ -12,7 +12,6 @@ ghost use Rattle.act_join.specs.Puts.{Puts};
 use crate::decider::Decider;
 use crate::fault::SegmentFault;
 use crate::words::{push_asked, push_head, push_pair, push_verdict};
-use act_geom::inside;
 use act_grid::{Layers, Point};
 use act_io::{Sink, put_all};
 use act_script::{Batch, Step, Update};
@@ -76,7 +75,7 @@ fn put_zone<K: Sink>(
     ensures { Puts (stream K.written K.faults out.old out.new) text.old.items text.new.items (zone_text id layers.now index.now.state.zones point i) result }
 {
     let key = index.zone_key(i);
-    if layers.has(key) && inside(index.zone_shape(i), point) {
+    if layers.has(key) && index.zone_contains(i, point) {
         return put_pair(out, text, id, key);
     }
     Ok(())

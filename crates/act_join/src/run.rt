@@ -45,8 +45,10 @@ impl Run {
     /// Does the steps of a segment in their order, and writes their replies.
     ///
     /// A batch is answered over the zones that stand when it is reached: each of its points is tested
-    /// against each zone of its layers. It takes time in proportion to the points times the vertices, and
-    /// memory for at most one line more than 64 KiB of replies. A point with no id has the id 0.
+    /// against the box of each zone of its layers, and against the zone's edges where it lies in the box.
+    /// It takes time in proportion to the points times the zones, and to the vertices of the boxes that
+    /// are met, and memory for at most one line more than 64 KiB of replies. A point with no id has the
+    /// id 0.
     ///
     /// `rt` and `gate` are for workers.
     pub fn segment<T: Threads + Sync, K: Sink, G: Gate>(

@@ -1,3 +1,4 @@
 pub mod Rising
 pub mod Keyed
 pub mod Sameness
+pub mod BoundsFacts

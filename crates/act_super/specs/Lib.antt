@@ -1,4 +1,5 @@
 pub mod Shapes
+pub mod Bounds
 pub mod Places
 pub mod States
 pub mod Changes

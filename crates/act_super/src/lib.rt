@@ -14,6 +14,7 @@
 //! ```
 #![tactic(auto)]
 
+mod bounds;
 mod entry;
 mod next;
 mod same;

@@ -3,12 +3,13 @@
 ghost use Rattle.std.specs.Prelude.{◌≡◌};
 ghost use Rattle.act_super.specs.declared.verdict.Verdict.TheVariants.{NoMemory as Unfed};
 
+use crate::bounds::{bounded_inside, bounds_of};
 use crate::next::{Change, Next};
 use crate::same::same;
 use crate::search::place;
 use crate::verdict::{TurnedAdd, Verdict};
 use act_geom::Shape;
-use act_grid::Settings;
+use act_grid::{Hull, Point, Settings};
 use std::alloc::Global;
 use std::marker::Model;
 
@@ -19,21 +20,23 @@ const MOST_ZONES: usize = 0xFFFF_FFFF;
 #[derive(Drop)]
 pub struct Super {
     settings: Settings,
-    // The keys in ascending order, and beside each its shape.
+    // The keys in ascending order, and beside each its shape and the box of the shape's vertices.
     keys: Vec<u32>,
     shapes: Vec<Shape>,
+    boxes: Vec<Hull>,
 }
 
 impl Model for Super {
     ghost use Rattle.std.specs.Prelude.{◌≡◌, ◌≤◌, ◌-◌, [], length, min, vec_len, vec_capacity};
     ghost use Rattle.act_super.specs.States.{Plain};
     ghost use Rattle.act_super.specs.Places.{IsRising, zones_with};
+    ghost use Rattle.act_super.specs.Bounds.{AreBoundsOf};
 
     ghost Value = { Plain };
 
-    ghost view = { λ s. record { settings = s.settings; state = record { zones = zones_with s.keys.items s.shapes.items; trained = [] }; spare = min (min (vec_capacity s.keys) (vec_capacity s.shapes)) 4294967295 - vec_len s.keys } };
+    ghost view = { λ s. record { settings = s.settings; state = record { zones = zones_with s.keys.items s.shapes.items; trained = [] }; spare = min (min (min (vec_capacity s.keys) (vec_capacity s.shapes)) (vec_capacity s.boxes)) 4294967295 - vec_len s.keys } };
 
-    ghost invariant = { λ s. (length s.shapes.items ≡ length s.keys.items) × IsRising s.keys.items × (length s.keys.items ≤ 4294967295) };
+    ghost invariant = { λ s. (length s.shapes.items ≡ length s.keys.items) × IsRising s.keys.items × (length s.keys.items ≤ 4294967295) × AreBoundsOf s.boxes.items s.shapes.items };
 }
 
 /// Want of memory, with the shape.
@@ -48,6 +51,7 @@ fn unfed(shape: Shape) -> TurnedAdd
 
 impl Super {
     ghost use Rattle.std.specs.Prelude.{◌≡◌, ◌⊎◌, ◌<◌, ◌≤◌, IfOk, IfErr, Some, length, slice_index_or, slice_get};
+    ghost use Rattle.act_geom.specs.Inside.{is_inside};
     ghost use Rattle.act_super.specs.States.{IsFor, after, needs, nothing, verdict_of, zone_key_at, zone_shape_at};
     ghost use Rattle.act_super.specs.declared.entry.Entry.TheVariants.{Add, DropZone, Replace};
 
@@ -59,6 +63,7 @@ impl Super {
             settings,
             keys: Vec::new(alloc),
             shapes: Vec::new(alloc),
+            boxes: Vec::new(alloc),
         }
     }
 
@@ -81,6 +86,9 @@ impl Super {
             return Err(unfed(shape));
         };
         let Ok(()) = self.shapes.reserve(1) else {
+            return Err(unfed(shape));
+        };
+        let Ok(()) = self.boxes.reserve(1) else {
             return Err(unfed(shape));
         };
         Ok(Next {
@@ -146,10 +154,14 @@ impl Super {
         let Err(at) = place(&self.keys, key) else {
             unreachable!()
         };
+        let bounds = bounds_of(&shape);
         let Ok(()) = self.keys.insert(at, key) else {
             unreachable!()
         };
         let Ok(()) = self.shapes.insert(at, shape) else {
+            unreachable!()
+        };
+        let Ok(()) = self.boxes.insert(at, bounds) else {
             unreachable!()
         };
     }
@@ -163,6 +175,7 @@ impl Super {
         };
         self.keys.remove(at);
         self.shapes.remove(at);
+        self.boxes.remove(at);
     }
 
     fn reshape(&mut self, key: u32, shape: Shape)
@@ -172,6 +185,7 @@ impl Super {
         let Ok(at) = place(&self.keys, key) else {
             unreachable!()
         };
+        self.boxes[at] = bounds_of(&shape);
         self.shapes[at] = shape;
     }
 
@@ -196,5 +210,17 @@ impl Super {
         ensures { result.now ≡ zone_shape_at self.now.state.zones i }
     {
         &self.shapes[i as usize]
+    }
+
+    /// Whether the zone, counted from 0 by ascending key, contains the point.
+    ///
+    /// It looks at the box of the zone's vertices first, and at each edge only where the point lies in
+    /// that box.
+    pub fn zone_contains(&self, i: u32, p: Point) -> bool
+        requires { i < length self.now.state.zones }
+        ensures { result ≡ is_inside (zone_shape_at self.now.state.zones i) p }
+    {
+        let at = i as usize;
+        bounded_inside(&self.shapes[at], self.boxes[at], p)
     }
 }

@@ -76,3 +76,39 @@ fn changes_tell_what_they_change(rt: HostRuntime) -> Result<(), Fail> {
     assert_eq!(rt; state.zones(), 1);
     Ok(())
 }
+
+// The zone is the square from 0 to 7. Its left and lower sides belong to it, the others don't.
+#[test]
+fn a_zone_contains_points(rt: HostRuntime) -> Result<(), Fail> {
+    let state = state_of(rt.alloc(), &[7])?;
+    assert_eq!(rt; state.zones(), 1);
+    for (x, y, want) in [
+        (0, 0, true),
+        (6, 6, true),
+        (-1, 3, false),
+        (7, 3, false),
+        (3, -1, false),
+        (3, 7, false),
+    ] {
+        assert_eq!(rt; state.zone_contains(0, Point { x, y }), want, "at {x} {y}");
+    }
+    Ok(())
+}
+
+// The point lies in the box of a triangle, and outside of the triangle.
+#[test]
+fn a_box_is_more_than_its_zone(rt: HostRuntime) -> Result<(), Fail> {
+    let alloc = rt.alloc();
+    let mut state = state_of(alloc, &[])?;
+    let mut shape = Shape::new(alloc);
+    let at = |x, y| Point { x, y };
+    shape.push_ring(&[at(0, 0), at(10, 0), at(0, 10)])?;
+    match state.prepare_add(1, shape) {
+        Ok(next) => state.commit(next),
+        Err(turned) => return Err(turned.why.into()),
+    }
+    assert_eq!(rt; state.zones(), 1);
+    assert!(rt; state.zone_contains(0, Point { x: 2, y: 2 }));
+    assert!(rt; !state.zone_contains(0, Point { x: 9, y: 9 }));
+    Ok(())
+}

@@ -2,6 +2,7 @@ use Rattle.std.proofs.Common.{◌≡◌, ap, sym, arith, length, ◌<◌, ◌≤
 use Rattle.act_super.specs.States.{Plain, has_key}
 use Rattle.act_super.specs.Places.{zones_with}
 use Rattle.act_super.proofs.Keyed.{has_found, has_free}
+use Rattle.act_super.proofs.BoundsFacts.{length-bounds}
 use Rattle.act_super.proofs.state.Super.prepare_add.Goals as goal
 
 pub returns-in_default-clause-err : goal.returns-in_default-clause-err
@@ -19,5 +20,16 @@ returns-clause-ok c =
     × ((k : ℕ) → c.in-Err.field-0 ≤ k → k < length c.self.inside.keys.items → c.args.key < get_or c.self.inside.keys.items k 0) =
     rw c.deref.ensures.value at c.in-Err.ensures in
     let missing : has_key c.args.key c.args.self.now.state.zones ≡ false =
-    rw zones (has_free c.args.key c.self.inside.keys.items c.self.inside.shapes.items _ place.1 place.2) in
-    (refl, record { accepted = rw missing refl }, omega (arith, c.in-Ok.ensures.ok, c.in-Ok-reserve.ensures.ok, c.reserve.ensures.len, c.self.invariant.0))
+    rw zones (has_free c.args.key c.self.inside.keys.items c.self.inside.shapes.items _ place.1 place.2) in (
+      refl,
+      record { accepted = rw missing refl },
+      omega (
+        arith,
+        c.in-Ok.ensures.ok,
+        c.in-Ok-reserve.ensures.ok,
+        c.in-Ok-reserve-2.ensures.ok,
+        c.reserve.ensures.len,
+        c.self.invariant.0,
+        length-bounds c.self.inside.boxes.items c.self.inside.shapes.items c.self.invariant.3,
+      ),
+    )

@@ -4,6 +4,7 @@ use Rattle.act_super.specs.Places.{zones_with, IsRising}
 use Rattle.std.specs.Prelude.{remove}
 use Rattle.act_super.proofs.Keyed.{has_free, remove_is, same_state}
 use Rattle.act_super.proofs.Rising.{rising_remove}
+use Rattle.act_super.proofs.BoundsFacts.{bounds_remove, length-bounds}
 use Rattle.act_super.proofs.state.Super.remove.Goals as goal
 
 pub unreachable-requires : goal.unreachable-requires
@@ -17,6 +18,11 @@ unreachable-requires c =
     let turned = rw missing at c.requires.accepted in
     cc
 
+pub remove-requires-3 : goal.remove-requires-3
+remove-requires-3 c =
+    let place : (c.in-Ok.at < length c.self.inside.keys.items) × (get_or c.self.inside.keys.items c.in-Ok.at 0 ≡ c.args.key) = rw c.deref.ensures.value at c.in-Ok.ensures in
+    omega (arith, place.0, c.self.invariant.0, length-bounds c.self.inside.boxes.items c.self.inside.shapes.items c.self.invariant.3)
+
 pub invariant_of-self : goal.invariant_of-self
 invariant_of-self c =
     let place : (c.in-Ok.at < length c.self.inside.keys.items) × (get_or c.self.inside.keys.items c.in-Ok.at 0 ≡ c.args.key) = rw c.deref.ensures.value at c.in-Ok.ensures in
@@ -24,6 +30,7 @@ invariant_of-self c =
       omega (arith, c.remove.ensures.len, c.remove-2.ensures.len, c.self.invariant.0),
       rw c.remove.ensures.items rises,
       omega (arith, c.remove.ensures.len, c.self.invariant.2),
+      rw (c.remove-2.ensures.items, c.remove-3.ensures.items) (bounds_remove c.self.inside.boxes.items c.self.inside.shapes.items c.in-Ok.at c.self.invariant.3),
     )
 
 pub returns : goal.returns
