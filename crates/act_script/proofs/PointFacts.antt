@@ -58,11 +58,11 @@ pub plain_text : (text : List ℕ) → IsOpen text → AllByRecursion (λ b. (b 
 plain_text [] o h = tt
 plain_text (b ∷ text) o h = ((not-first b h.0, not-second b h.0, o.0), plain_text text o.1 h.1)
 
-no_quote : (text : List ℕ) → IsPlain text → count_by (λ b. b == 34) text ≡ 0
+pub no_quote : (text : List ℕ) → IsPlain text → count_by (λ b. b == 34) text ≡ 0
 no_quote [] p = refl
 no_quote (b ∷ text) p = rw (differs b 34 p.0.0) (no_quote text p.1)
 
-no_return : (text : List ℕ) → IsPlain text → list_any (λ b. b == 13) text ≡ false
+pub no_return : (text : List ℕ) → IsPlain text → list_any (λ b. b == 13) text ≡ false
 no_return [] p = refl
 no_return (b ∷ text) p = rw (differs b 13 p.0.1) (no_return text p.1)
 

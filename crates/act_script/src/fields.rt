@@ -1,12 +1,13 @@
 //! The fields of a line.
 
-ghost use Rattle.std.specs.Prelude.{◌≡◌, ◌==◌, ◌<◌, [], ◌∷◌, ◌++◌, Some, MatchOption, IfOk, IfSome, length, option_map, count_by, codes, false};
+ghost use Rattle.std.specs.Prelude.{IsTrue, ◌≡◌, ◌==◌, ◌<◌, [], ◌∷◌, ◌++◌, Some, MatchOption, IfOk, IfSome, length, option_map, count_by, codes, false};
 ghost use Rattle.std.specs.List.{list_any, slice_split};
 ghost use Rattle.csv.specs.Records.{fields_of};
 ghost use Rattle.act_script.specs.Cutting.{IsOpen};
 ghost use Rattle.act_script.specs.Records.{split_at_commas};
 ghost use Rattle.act_script.specs.Fields.{is_blank, is_broken, line_fields, whole_of, without_marks};
 
+use crate::row::Quoted;
 use act_grid::NoMemory;
 use csv::{ByteRecord, ReaderBuilder};
 use memchr::{memchr, memchr2};
@@ -50,7 +51,7 @@ fn has_return(line: &[u8]) -> bool
 }
 
 /// The fields of the record that `csv` reads from a line, where it has one. A reader is made for
-/// each line, which takes some microseconds. Each error of `csv` is answered as want of memory.
+/// each line, which takes some tens of microseconds. Each error of `csv` is answered as want of memory.
 pub fn read_fields(alloc: Global, line: &[u8]) -> Result<Option<ByteRecord>, NoMemory>
     ensures { IfOk result (λ row. option_map fields_of row ≡ line_fields line.now) }
 {
@@ -116,4 +117,43 @@ fn strip_word<'a>(text: &'a [u8], word: &[u8]) -> Option<&'a [u8]>
     ensures { IfSome result (λ rest. text.now ≡ word.now ++ rest.now) }
 {
     text.strip_prefix(word)
+}
+
+/// Whether the fields of a line are the texts between its commas.
+pub fn is_plain(line: &[u8]) -> bool
+    requires { IsOpen line.now }
+    ensures { IsTrue result → (is_broken line.now ≡ false) × (line_fields line.now ≡ Some (split_at_commas line.now)) }
+{
+    if line.is_empty() || line[0] == 0xEF {
+        return false;
+    }
+    match memchr2(b'"', b'\r', line) {
+        Some(_) => false,
+        None => true,
+    }
+}
+
+/// The fields of a line whose last one alone stands in quotes, with no quote within, where they need no
+/// reader of `csv`.
+pub fn quoted_last(line: &[u8]) -> Option<Quoted<'_>>
+    requires { IsOpen line.now }
+    ensures { IfSome result (λ row. (is_broken line.now ≡ false) × (line_fields line.now ≡ Some (split_at_commas row.front.now ++ row.last.now ∷ []))) }
+{
+    let at = memchr(b'"', line)?;
+    if at == 0 || line[at - 1] != b',' || line[0] == 0xEF {
+        return None;
+    }
+    let front = &line[..at - 1];
+    let rest = &line[at + 1..];
+    let end = memchr2(b'"', b'\r', rest)?;
+    if rest[end] != b'"' || end + 1 != rest.len() {
+        return None;
+    }
+    match memchr(b'\r', front) {
+        Some(_) => None,
+        None => Some(Quoted {
+            front,
+            last: &rest[..end],
+        }),
+    }
 }

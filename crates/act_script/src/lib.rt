@@ -22,6 +22,7 @@ mod line;
 mod line_tests;
 mod lists;
 mod pending;
+mod row;
 mod segment;
 #[cfg(test)]
 mod segment_tests;

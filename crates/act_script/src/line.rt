@@ -12,19 +12,23 @@ ghost use Rattle.act_script.specs.Answers.{IsAnswer};
 ghost use Rattle.act_script.specs.Items.{brief_item, coordinate, drop_item, id_of, item_of, key_of, kind_item, layers_item, point_item, record_item, replace_item, shaped, told_item, with_fields, zone_item};
 
 use crate::fault::LineFault;
-use crate::fields::{cut, has_break, has_nothing, plain_point, read_fields, strip_marks, whole};
+use crate::fields::{
+    cut, has_break, has_nothing, is_plain, plain_point, quoted_last, read_fields, strip_marks,
+    whole,
+};
 use crate::item::Item;
+use crate::row::{Plain, Row};
 use crate::set::read_set;
 use act_geom::Shape;
 use act_grid::{NoMemory, NumFault, Point, coord};
 use act_wkt::{WktFault, read};
-use csv::ByteRecord;
 use std::alloc::Global;
 
 /// What a line says: nothing where it is blank, its item, or its first fault.
 ///
-/// A line of a point without quotes takes no memory, and time in proportion to its length. Any other
-/// line makes a reader of `csv`, which takes some microseconds.
+/// It takes time in proportion to the length of the line. A line without quotes, and one whose last
+/// field alone stands in quotes, with none within it, is read where it lies, and takes memory for a shape
+/// alone. Any other line makes a reader of `csv`, which takes some tens of microseconds.
 pub fn read_line(alloc: Global, line: &[u8], digits: u8) -> Result<Option<Item>, LineFault>
     requires digits { digits ≤ 9 }
     requires short { length line.now ≤ 16777216 }
@@ -50,6 +54,12 @@ fn read_told(alloc: Global, line: &[u8], digits: u8) -> Result<Item, LineFault>
 {
     if let Some(fields) = plain_point(line) {
         return read_point(fields, digits);
+    }
+    if is_plain(line) {
+        return read_record(alloc, &Plain { line }, digits);
+    }
+    if let Some(row) = quoted_last(line) {
+        return read_record(alloc, &row, digits);
     }
     if has_break(line) {
         return Err(LineFault::Fields);
@@ -172,51 +182,44 @@ fn is_text(field: &[u8], text: &[u8]) -> bool
     field == text
 }
 
-/// The field at a place.
-fn field(row: &ByteRecord, place: usize) -> &[u8]
-    ensures { result.now ≡ field_text (fields_of row.now) place }
-{
-    row.get(place).unwrap_or(&[])
-}
-
 /// What the fields of a line say.
-fn read_record(alloc: Global, row: &ByteRecord, digits: u8) -> Result<Item, LineFault>
+fn read_record<W: Row>(alloc: Global, row: &W, digits: u8) -> Result<Item, LineFault>
     requires digits { digits ≤ 9 }
-    requires short { AreShort (fields_of row.now) }
-    ensures { IsAnswer result (record_item digits (fields_of row.now)) }
+    requires short { AreShort (W.texts row.now) }
+    ensures { IsAnswer result (record_item digits (W.texts row.now)) }
 {
-    let kind = field(row, 0);
-    let count = row.len();
+    let kind = row.field(0);
+    let count = row.count();
     if is_text(kind, b"point") {
         if count != 4 {
             return Err(LineFault::Fields);
         }
-        return make_point(field(row, 1), field(row, 2), field(row, 3), digits);
+        return make_point(row.field(1), row.field(2), row.field(3), digits);
     }
     if is_text(kind, b"zone") {
         if count != 3 {
             return Err(LineFault::Fields);
         }
-        return read_zone(alloc, field(row, 1), field(row, 2), digits);
+        return read_zone(alloc, row.field(1), row.field(2), digits);
     }
     if is_text(kind, b"replace") {
         if count != 3 {
             return Err(LineFault::Fields);
         }
-        return read_replace(alloc, field(row, 1), field(row, 2), digits);
+        return read_replace(alloc, row.field(1), row.field(2), digits);
     }
     read_brief(row)
 }
 
 /// What the fields of a line of the other kinds say.
-fn read_brief(row: &ByteRecord) -> Result<Item, LineFault>
-    ensures { result ≡ brief_item (fields_of row.now) (field_text (fields_of row.now) 0) }
+fn read_brief<W: Row>(row: &W) -> Result<Item, LineFault>
+    ensures { result ≡ brief_item (W.texts row.now) (field_text (W.texts row.now) 0) }
 {
-    let kind = field(row, 0);
-    let count = row.len();
+    let kind = row.field(0);
+    let count = row.count();
     if is_text(kind, b"drop") {
         return if count == 2 {
-            read_drop(field(row, 1))
+            read_drop(row.field(1))
         } else {
             Err(LineFault::Fields)
         };
@@ -237,7 +240,7 @@ fn read_brief(row: &ByteRecord) -> Result<Item, LineFault>
     }
     if is_text(kind, b"layers") {
         return if count == 2 {
-            read_layers(field(row, 1))
+            read_layers(row.field(1))
         } else {
             Err(LineFault::Fields)
         };

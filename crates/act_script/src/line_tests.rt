@@ -204,6 +204,29 @@ fn shapes(rt: HostRuntime) -> Result<(), Fail> {
 }
 
 #[test]
+fn quoted_fields(rt: HostRuntime) -> Result<(), Fail> {
+    let alloc = rt.alloc();
+    let cases: [(&[u8], &str); 12] = [
+        (b"drop,\"7\"", "drop 7"),
+        (b"drop,7,\"\"", "Fields"),
+        (b"drop,\"7", "Fields"),
+        (b"drop,\"7\" ", "Key"),
+        (b"drop,\"\"\"7\"", "Key"),
+        (b"\"drop\",\"7\"", "drop 7"),
+        (b",\"sync\"", "Kind"),
+        (b"sync\"\"", "Kind"),
+        (b"drop\r,\"7\"", "Fields"),
+        (b"drop,\"7\r\"", "Fields"),
+        (b"layers,\"1;2\"", "layers 1 2"),
+        (b"point,1,2,\"3\"", "point 1 (2 3)"),
+    ];
+    for (line, wanted) in &cases {
+        assert_eq!(rt; answer_to(alloc, line)?.as_str(), *wanted);
+    }
+    Ok(())
+}
+
+#[test]
 fn drops_and_layers(rt: HostRuntime) -> Result<(), Fail> {
     let alloc = rt.alloc();
     let cases: [(&[u8], &str); 12] = [
