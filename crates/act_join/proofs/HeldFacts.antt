@@ -11,6 +11,7 @@ use Rattle.act_super.specs.declared.entry.Entry.{Entry}
 use Rattle.act_super.specs.declared.entry.Entry.TheVariants as entry
 use Rattle.act_super.specs.States.{after, nothing, verdict_of}
 use Rattle.act_super.specs.Histories.{is_update, state_from, state_of, zones_after, zones_of}
+use Rattle.act_super.proofs.HistoryFacts.{state_has_zones, training_changes_no_zone}
 use Rattle.act_script.specs.Segments.{batches_in, is_batch}
 use Rattle.act_script.specs.declared.segment.Step.{Step}
 use Rattle.act_script.specs.declared.segment.Step.TheVariants as step
@@ -37,9 +38,9 @@ held_is held [] = ap (λ n. record held { updates = n }) (omega arith)
 held_is held (first ∷ steps) = held_is (after_step held first) steps ∙ steps_step held first steps
 
 -- the state after more entries
-pub state_more : (state : State) (xs ys : List Entry) → state_from state (xs ++ ys) ≡ state_from (state_from state xs) ys
-state_more state [] ys = refl
-state_more state (x ∷ xs) ys = state_more (after state x) xs ys
+pub state_more : (settings : Settings) (state : State) (xs ys : List Entry) → state_from settings state (xs ++ ys) ≡ state_from settings (state_from settings state xs) ys
+state_more settings state [] ys = refl
+state_more settings state (x ∷ xs) ys = state_more settings (after settings state x) xs ys
 
 -- an update that is asked for is an update of the history
 pub asks_update : (asked : Update) → is_update (entry_of asked) ≡ true
@@ -55,23 +56,12 @@ updates_more (entry.DropZone key ∷ xs) ys = ap (λ es. entry.DropZone key ∷ 
 updates_more (entry.Replace key shape ∷ xs) ys = ap (λ es. entry.Replace key shape ∷ es) (updates_more xs ys)
 updates_more (entry.Train cells ∷ xs) ys = updates_more xs ys
 
--- the zones are those after the updates alone
-zones_by_updates : (s t : State) (xs : List Entry) → s.zones ≡ t.zones → (state_from s (filter is_update xs)).zones ≡ (state_from t xs).zones
-zones_by_updates s t [] same = same
-zones_by_updates s t (entry.Add key shape ∷ xs) same =
-    zones_by_updates (after s (entry.Add key shape)) (after t (entry.Add key shape)) xs (ap (λ zs. (after (record t { zones = zs }) (entry.Add key shape)).zones) same)
-zones_by_updates s t (entry.DropZone key ∷ xs) same =
-    zones_by_updates (after s (entry.DropZone key)) (after t (entry.DropZone key)) xs (ap (λ zs. (after (record t { zones = zs }) (entry.DropZone key)).zones) same)
-zones_by_updates s t (entry.Replace key shape ∷ xs) same =
-    zones_by_updates (after s (entry.Replace key shape)) (after t (entry.Replace key shape)) xs (ap (λ zs. (after (record t { zones = zs }) (entry.Replace key shape)).zones) same)
-zones_by_updates s t (entry.Train cells ∷ xs) same = zones_by_updates s (after t (entry.Train cells)) xs same
-
 -- a history goes on with an update where it is accepted
-pub leads_if : (b : Bool) (settings : Settings) (state : State) (n : ℕ) (asked : Entry) (before : List Entry) → is_update asked ≡ true → state_of before ≡ state → length (filter is_update before) ≡ n
-    → (state_of (before ++ (if b then asked ∷ [] else [])) ≡ (if b then after state asked else state)) × (length (filter is_update (before ++ (if b then asked ∷ [] else []))) ≡ (if b then n + 1 else n))
+pub leads_if : (b : Bool) (settings : Settings) (state : State) (n : ℕ) (asked : Entry) (before : List Entry) → is_update asked ≡ true → state_of settings before ≡ state → length (filter is_update before) ≡ n
+    → (state_of settings (before ++ (if b then asked ∷ [] else [])) ≡ (if b then after settings state asked else state)) × (length (filter is_update (before ++ (if b then asked ∷ [] else []))) ≡ (if b then n + 1 else n))
 leads_if true settings state n asked before is at many =
     let one : filter is_update (asked ∷ []) ≡ asked ∷ [] = rw is refl in (
-      state_more nothing before (asked ∷ []) ∙ ap (λ s. after s asked) at,
+      state_more settings nothing before (asked ∷ []) ∙ ap (λ s. after settings s asked) at,
       ap length (updates_more before (asked ∷ []) ∙ ap (λ es. filter is_update before ++ es) one) ∙ length-append (filter is_update before) (asked ∷ []) ∙ ap (λ k. k + 1) many,
     )
 leads_if false settings state n asked before is at many = (rw (append-nil before) at, rw (append-nil before) many)
@@ -83,7 +73,7 @@ zones_here held before rest history leads same =
     let parts : filter is_update history ≡ front ++ filter is_update rest = ap (filter is_update) same ∙ updates_more before rest in
     let seam : take held.updates (filter is_update history) ≡ front =
     ap (take held.updates) parts ∙ ap (λ n. take n (front ++ filter is_update rest)) (sym leads.updates) ∙ take-append_seam front (filter is_update rest) in
-    ap zones_of seam ∙ zones_by_updates nothing nothing before refl ∙ ap (λ s. s.zones) leads.state
+    ap zones_of seam ∙ sym (training_changes_no_zone before) ∙ sym (state_has_zones held.settings before) ∙ ap (λ s. s.zones) leads.state
 
 -- the text of the steps in such a history
 pub own_is : (held : Held) (steps : List Step) (before later history : List Entry) → LeadsTo held before → history ≡ before ++ (accepted_in held steps ++ later)

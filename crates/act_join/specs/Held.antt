@@ -73,7 +73,7 @@ after_steps held steps = record held {
 
 -- a history that leads here: its entries lead to the state, and its updates are as many as were accepted
 pub record LeadsTo (held : Held) (history : List Entry) : Type 0 where
-  pub state : state_of history ≡ held.state
+  pub state : state_of held.settings history ≡ held.state
   pub updates : length (filter is_update history) ≡ held.updates
 
 -- one fair count for each batch

@@ -11,6 +11,7 @@ use std::marker::Model;
 pub(crate) struct Decider {
     index: Super,
     updates: u64,
+    alloc: Global,
 }
 
 impl Model for Decider {
@@ -46,6 +47,7 @@ impl Decider {
         Decider {
             index: Super::new(alloc, settings),
             updates: 0,
+            alloc,
         }
     }
 
@@ -73,8 +75,9 @@ impl Decider {
         if self.updates == u64::MAX {
             return Err(NoMemory);
         }
+        let alloc = self.alloc;
         match update {
-            Update::Add { key, shape } => match self.index.prepare_add(key, shape) {
+            Update::Add { key, shape } => match self.index.prepare_add(alloc, key, shape) {
                 Ok(next) => {
                     self.index.commit(next);
                     self.updates += 1;
@@ -82,7 +85,7 @@ impl Decider {
                 }
                 Err(turned) => refused(turned.why),
             },
-            Update::DropZone { key } => match self.index.prepare_drop(key) {
+            Update::DropZone { key } => match self.index.prepare_drop(alloc, key) {
                 Ok(next) => {
                     self.index.commit(next);
                     self.updates += 1;
@@ -90,7 +93,7 @@ impl Decider {
                 }
                 Err(why) => refused(why),
             },
-            Update::Replace { key, shape } => match self.index.prepare_replace(key, shape) {
+            Update::Replace { key, shape } => match self.index.prepare_replace(alloc, key, shape) {
                 Ok(next) => {
                     self.index.commit(next);
                     self.updates += 1;

@@ -1,6 +1,6 @@
 //! The words of replies, in the buffer.
 
-ghost use Rattle.std.specs.Prelude.{◌≡◌, ◌++◌, OnOk, decimal};
+ghost use Rattle.std.specs.Prelude.{◌≡◌, ◌++◌, OnOk, codes, decimal};
 ghost use Rattle.act_script.specs.History.{entry_of};
 ghost use Rattle.act_join.specs.Replies.{head_text, key_text};
 ghost use Rattle.act_script.specs.Text.{entry_text, verdict_text};
@@ -9,6 +9,9 @@ use act_script::{Batch, Update};
 use act_super::Verdict;
 use itoa::Buffer;
 use std::alloc::AllocError;
+
+/// How many references a leaf may have.
+const MOST_REFERENCES: u64 = 510;
 
 fn push_number(text: &mut Vec<u8>, number: u64) -> Result<(), AllocError>
     ensures { OnOk result (text.new.items ≡ text.old.items ++ decimal number) }
@@ -46,8 +49,25 @@ pub(crate) fn push_verdict(text: &mut Vec<u8>, why: Option<Verdict>) -> Result<(
         Some(Verdict::Duplicate) => text.extend_from_slice(b" refused duplicate\n"),
         Some(Verdict::Unknown) => text.extend_from_slice(b" refused unknown\n"),
         Some(Verdict::Same) => text.extend_from_slice(b" refused same\n"),
+        Some(Verdict::Refs { need }) => {
+            push_need(text, b" refused refs ", u64::from(need), MOST_REFERENCES)
+        }
+        Some(Verdict::Rows { need, limit }) => {
+            push_need(text, b" refused rows ", need, u64::from(limit))
+        }
         Some(Verdict::NoMemory) => text.extend_from_slice(b""),
     }
+}
+
+// What is needed of something, and how much of it there may be.
+fn push_need(text: &mut Vec<u8>, cause: &[u8], need: u64, limit: u64) -> Result<(), AllocError>
+    ensures { OnOk result (text.new.items ≡ text.old.items ++ (cause.now ++ decimal need ++ codes " of " ++ decimal limit ++ codes "\n")) }
+{
+    text.extend_from_slice(cause)?;
+    push_number(text, need)?;
+    text.extend_from_slice(b" of ")?;
+    push_number(text, limit)?;
+    text.extend_from_slice(b"\n")
 }
 
 /// The first line of the reply to a batch.

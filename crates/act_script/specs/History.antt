@@ -28,7 +28,7 @@ entries_in steps = filter_map step_entry steps
 
 -- the state after an entry is decided: it is made where it is accepted
 abbrev pub decided : Settings → State → Entry → State
-decided settings state asked = if is_none (verdict_of settings state asked) then after state asked else state
+decided settings state asked = if is_none (verdict_of settings state asked) then after settings state asked else state
 
 abbrev pub state_decided : Settings → State → List Entry → State
 state_decided settings state [] = state

@@ -9,7 +9,7 @@ use Rattle.act_super.specs.declared.verdict.Verdict.{Verdict}
 use Rattle.act_super.specs.declared.verdict.Verdict.TheVariants as verdict
 use Rattle.act_super.specs.Histories.{zones_after}
 use Rattle.act_super.specs.Joins.{Hit, join}
-use Rattle.act_super.specs.States.{nothing, verdict_of}
+use Rattle.act_super.specs.States.{nothing, reference_limit, verdict_of}
 use Rattle.act_script.specs.History.{accepted_from, decided, entries_in, entry_of, history_in, state_decided}
 use Rattle.act_script.specs.Script.{script_segments}
 use Rattle.act_script.specs.Segments.{batches_in}
@@ -30,6 +30,8 @@ verdict_text None = codes " ok\n"
 verdict_text (Some verdict.Duplicate) = codes " refused duplicate\n"
 verdict_text (Some verdict.Unknown) = codes " refused unknown\n"
 verdict_text (Some verdict.Same) = codes " refused same\n"
+verdict_text (Some (verdict.Refs need)) = codes " refused refs " ++ decimal need ++ codes " of " ++ decimal reference_limit ++ codes "\n"
+verdict_text (Some (verdict.Rows need limit)) = codes " refused rows " ++ decimal need ++ codes " of " ++ decimal limit ++ codes "\n"
 verdict_text (Some verdict.NoMemory) = []
 
 -- the reply to an entry that is asked for in this state

@@ -14,17 +14,29 @@
 //! ```
 #![tactic(auto)]
 
-mod bounds;
 mod entry;
+mod frame;
+mod gather;
+mod laws;
+mod leaf;
+mod marks;
+mod narrow;
 mod next;
+mod pack;
+mod refs;
+mod room;
 mod same;
 mod search;
+mod standing;
 mod state;
 #[cfg(test)]
 mod tests;
 mod verdict;
+mod whole;
 
 pub use entry::{Entry, State, Zone};
+pub use laws::{leaf_holds_point, references_answer, training_changes_no_zone};
 pub use next::Next;
+pub use refs::{ZoneRef, ZoneRefs};
 pub use state::Super;
 pub use verdict::{TurnedAdd, Verdict};

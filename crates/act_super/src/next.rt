@@ -1,28 +1,37 @@
 //! Prepared changes.
 
+use crate::standing::Standing;
 use act_geom::Shape;
 use std::marker::Model;
 
 #[derive(Drop)]
 pub(crate) enum Change {
-    Add(u32, Shape),
+    Add(u32, Standing),
     DropZone(u32),
-    Replace(u32, Shape),
+    Replace(u32, Standing),
 }
 
-/// A change that was prepared on a state, and is made by its `commit`. Contracts see its entry.
+/// A change that was prepared on a state, and is made by its `commit`. Contracts see its entry and the Size after it.
 #[derive(Drop)]
 pub struct Next {
     pub(crate) change: Change,
+    // The Size of the state after it, and what that is with no trained cell.
+    pub(crate) size: u64,
+    pub(crate) plain: u64,
+    // For how many cells the Level was taken.
+    pub(crate) cells: u32,
 }
 
 impl Model for Next {
-    ghost use Rattle.act_super.specs.declared.entry.Entry.{Entry};
+    ghost use Rattle.act_super.specs.States.{Prepared};
     ghost use Rattle.act_super.specs.Changes.{entry_of};
+    ghost use Rattle.act_super.specs.Sound.{IsLevelled};
 
-    ghost Value = { Entry };
+    ghost Value = { Prepared };
 
-    ghost view = { λ n. entry_of n.change };
+    ghost view = { λ n. record { entry = entry_of n.change; size = n.size; plain = n.plain; cells = n.cells } };
+
+    ghost invariant = { λ n. IsLevelled n.cells n.change };
 }
 
 impl Next {
@@ -30,9 +39,16 @@ impl Next {
     ghost use Rattle.std.specs.Option.{option_copied};
     ghost use Rattle.act_super.specs.States.{key_of, shape_of};
 
+    /// The Size of the state after the change.
+    pub fn size(&self) -> u64
+        ensures { result ≡ self.now.size }
+    {
+        self.size
+    }
+
     /// The key of the zone that is added, dropped or replaced. None comes exactly for a training.
     pub fn key(&self) -> Option<u32>
-        ensures { result ≡ key_of self.now }
+        ensures { result ≡ key_of self.now.entry }
     {
         match &self.change {
             Change::Add(key, _) => Some(*key),
@@ -43,23 +59,23 @@ impl Next {
 
     /// The shape that is added or that replaces another. None comes exactly where there is none.
     pub fn shape(&self) -> Option<&Shape>
-        ensures { option_copied result ≡ shape_of self.now }
+        ensures { option_copied result ≡ shape_of self.now.entry }
     {
         match &self.change {
-            Change::Add(_, shape) => Some(shape),
+            Change::Add(_, zone) => Some(&zone.shape),
             Change::DropZone(_) => None,
-            Change::Replace(_, shape) => Some(shape),
+            Change::Replace(_, zone) => Some(&zone.shape),
         }
     }
 
     /// Gives the shape back, where there is one.
     pub fn into_shape(self) -> Option<Shape>
-        ensures { result ≡ shape_of self }
+        ensures { result ≡ shape_of self.entry }
     {
         match self.change {
-            Change::Add(_, shape) => Some(shape),
+            Change::Add(_, zone) => Some(zone.shape),
             Change::DropZone(_) => None,
-            Change::Replace(_, shape) => Some(shape),
+            Change::Replace(_, zone) => Some(zone.shape),
         }
     }
 }

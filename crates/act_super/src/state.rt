@@ -3,13 +3,17 @@
 ghost use Rattle.std.specs.Prelude.{◌≡◌};
 ghost use Rattle.act_super.specs.declared.verdict.Verdict.TheVariants.{NoMemory as Unfed};
 
-use crate::bounds::{bounded_inside, bounds_of};
+use crate::leaf::leaf_in;
+use crate::marks::Marks;
 use crate::next::{Change, Next};
+use crate::refs::{ZoneRefs, push_refs};
+use crate::room::room_in;
 use crate::same::same;
 use crate::search::place;
+use crate::standing::Standing;
 use crate::verdict::{TurnedAdd, Verdict};
 use act_geom::Shape;
-use act_grid::{Hull, Point, Settings};
+use act_grid::{Cell, NoMemory, Point, Settings};
 use std::alloc::Global;
 use std::marker::Model;
 
@@ -20,23 +24,27 @@ const MOST_ZONES: usize = 0xFFFF_FFFF;
 #[derive(Drop)]
 pub struct Super {
     settings: Settings,
-    // The keys in ascending order, and beside each its shape and the box of the shape's vertices.
+    // The keys in ascending order, and beside each its shape with what is kept of it.
     keys: Vec<u32>,
-    shapes: Vec<Shape>,
-    boxes: Vec<Hull>,
+    standings: Vec<Standing>,
+    marks: Marks,
+    // The Size of the state, and what it is with no trained cell.
+    size: u64,
+    plain: u64,
 }
 
 impl Model for Super {
-    ghost use Rattle.std.specs.Prelude.{◌≡◌, ◌≤◌, ◌-◌, [], length, min, vec_len, vec_capacity};
+    ghost use Rattle.std.specs.Prelude.{◌-◌, min, vec_len, vec_capacity};
     ghost use Rattle.act_super.specs.States.{Plain};
-    ghost use Rattle.act_super.specs.Places.{IsRising, zones_with};
-    ghost use Rattle.act_super.specs.Bounds.{AreBoundsOf};
+    ghost use Rattle.act_super.specs.Places.{zones_with};
+    ghost use Rattle.act_super.specs.Sound.{IsSound};
+    ghost use Rattle.act_super.specs.Standings.{shapes_in};
 
     ghost Value = { Plain };
 
-    ghost view = { λ s. record { settings = s.settings; state = record { zones = zones_with s.keys.items s.shapes.items; trained = [] }; spare = min (min (min (vec_capacity s.keys) (vec_capacity s.shapes)) (vec_capacity s.boxes)) 4294967295 - vec_len s.keys } };
+    ghost view = { λ s. record { settings = s.settings; state = record { zones = zones_with s.keys.items (shapes_in s.standings.items); trained = s.marks }; spare = min (min (vec_capacity s.keys) (vec_capacity s.standings)) 4294967295 - vec_len s.keys } };
 
-    ghost invariant = { λ s. (length s.shapes.items ≡ length s.keys.items) × IsRising s.keys.items × (length s.keys.items ≤ 4294967295) × AreBoundsOf s.boxes.items s.shapes.items };
+    ghost invariant = { λ s. IsSound s.settings s.keys.items s.standings.items s.marks s.size s.plain };
 }
 
 /// Want of memory, with the shape.
@@ -51,7 +59,9 @@ fn unfed(shape: Shape) -> TurnedAdd
 
 impl Super {
     ghost use Rattle.std.specs.Prelude.{◌≡◌, ◌⊎◌, ◌<◌, ◌≤◌, IfOk, IfErr, Some, length, slice_index_or, slice_get};
+    ghost use Rattle.act_cover.specs.Level.{level_of};
     ghost use Rattle.act_geom.specs.Inside.{is_inside};
+    ghost use Rattle.act_super.specs.Sizes.{leaf_of, refs_of, size_of};
     ghost use Rattle.act_super.specs.States.{IsFor, after, needs, nothing, verdict_of, zone_key_at, zone_shape_at};
     ghost use Rattle.act_super.specs.declared.entry.Entry.TheVariants.{Add, DropZone, Replace};
 
@@ -62,18 +72,20 @@ impl Super {
         Super {
             settings,
             keys: Vec::new(alloc),
-            shapes: Vec::new(alloc),
-            boxes: Vec::new(alloc),
+            standings: Vec::new(alloc),
+            marks: Marks::new(alloc),
+            size: 1,
+            plain: 1,
         }
     }
 
     /// Prepares to add a zone. It takes the memory that `commit` needs, and leaves the state.
-    pub fn prepare_add(&mut self, key: u32, shape: Shape) -> Result<Next, TurnedAdd>
-        ensures ok { IfOk result (λ next. (next ≡ Add key shape) × IsFor self.old.settings self.old.state next × (needs next ≤ self.new.spare)) }
+    pub fn prepare_add(&mut self, alloc: Global, key: u32, shape: Shape) -> Result<Next, TurnedAdd>
+        ensures ok { IfOk result (λ next. (next.entry ≡ Add key shape) × IsFor self.old.settings self.old.state next × (needs next.entry ≤ self.new.spare)) }
         ensures err { IfErr result (λ turned. (turned.shape ≡ shape) × ((turned.why ≡ Unfed) ⊎ (verdict_of self.old.settings self.old.state (Add key shape) ≡ Some turned.why))) }
         ensures same { (self.new.settings ≡ self.old.settings) × (self.new.state ≡ self.old.state) }
     {
-        let Err(_) = place(&self.keys, key) else {
+        let Err(at) = place(&self.keys, key) else {
             return Err(TurnedAdd {
                 why: Verdict::Duplicate,
                 shape,
@@ -85,34 +97,62 @@ impl Super {
         let Ok(()) = self.keys.reserve(1) else {
             return Err(unfed(shape));
         };
-        let Ok(()) = self.shapes.reserve(1) else {
+        let Ok(()) = self.standings.reserve(1) else {
             return Err(unfed(shape));
         };
-        let Ok(()) = self.boxes.reserve(1) else {
-            return Err(unfed(shape));
+        let cells = self.settings.cells;
+        let zone = Standing::new(shape, cells);
+        let room = room_in(
+            alloc,
+            &self.standings,
+            at,
+            Some(&zone),
+            at,
+            self.settings.rows,
+        );
+        let size = match room {
+            Ok(size) => size,
+            Err(why) => {
+                return Err(TurnedAdd {
+                    why,
+                    shape: zone.shape,
+                });
+            }
         };
         Ok(Next {
-            change: Change::Add(key, shape),
+            change: Change::Add(key, zone),
+            size,
+            plain: size,
+            cells,
         })
     }
 
     /// Prepares to drop a zone. It leaves the state.
-    pub fn prepare_drop(&mut self, key: u32) -> Result<Next, Verdict>
-        ensures ok { IfOk result (λ next. (next ≡ DropZone key) × IsFor self.old.settings self.old.state next × (needs next ≤ self.new.spare)) }
+    pub fn prepare_drop(&mut self, alloc: Global, key: u32) -> Result<Next, Verdict>
+        ensures ok { IfOk result (λ next. (next.entry ≡ DropZone key) × IsFor self.old.settings self.old.state next × (needs next.entry ≤ self.new.spare)) }
         ensures err { IfErr result (λ why. (why ≡ Unfed) ⊎ (verdict_of self.old.settings self.old.state (DropZone key) ≡ Some why)) }
         ensures same { (self.new.settings ≡ self.old.settings) × (self.new.state ≡ self.old.state) }
     {
-        let Ok(_) = place(&self.keys, key) else {
+        let Ok(at) = place(&self.keys, key) else {
             return Err(Verdict::Unknown);
         };
+        let size = room_in(alloc, &self.standings, at, None, at + 1, self.settings.rows)?;
         Ok(Next {
             change: Change::DropZone(key),
+            size,
+            plain: size,
+            cells: self.settings.cells,
         })
     }
 
     /// Prepares to give a standing zone another shape. It leaves the state.
-    pub fn prepare_replace(&mut self, key: u32, shape: Shape) -> Result<Next, TurnedAdd>
-        ensures ok { IfOk result (λ next. (next ≡ Replace key shape) × IsFor self.old.settings self.old.state next × (needs next ≤ self.new.spare)) }
+    pub fn prepare_replace(
+        &mut self,
+        alloc: Global,
+        key: u32,
+        shape: Shape,
+    ) -> Result<Next, TurnedAdd>
+        ensures ok { IfOk result (λ next. (next.entry ≡ Replace key shape) × IsFor self.old.settings self.old.state next × (needs next.entry ≤ self.new.spare)) }
         ensures err { IfErr result (λ turned. (turned.shape ≡ shape) × ((turned.why ≡ Unfed) ⊎ (verdict_of self.old.settings self.old.state (Replace key shape) ≡ Some turned.why))) }
         ensures same { (self.new.settings ≡ self.old.settings) × (self.new.state ≡ self.old.state) }
     {
@@ -122,71 +162,122 @@ impl Super {
                 shape,
             });
         };
-        if same(&self.shapes[at], &shape) {
+        if same(&self.standings[at].shape, &shape) {
             return Err(TurnedAdd {
                 why: Verdict::Same,
                 shape,
             });
         }
+        let cells = self.settings.cells;
+        let zone = Standing::new(shape, cells);
+        let room = room_in(
+            alloc,
+            &self.standings,
+            at,
+            Some(&zone),
+            at + 1,
+            self.settings.rows,
+        );
+        let size = match room {
+            Ok(size) => size,
+            Err(why) => {
+                return Err(TurnedAdd {
+                    why,
+                    shape: zone.shape,
+                });
+            }
+        };
         Ok(Next {
-            change: Change::Replace(key, shape),
+            change: Change::Replace(key, zone),
+            size,
+            plain: size,
+            cells,
         })
     }
 
     /// Makes a change that was prepared on this state. It takes no memory.
     pub fn commit(&mut self, next: Next)
         requires prepared { IsFor self.old.settings self.old.state next }
-        requires room { needs next ≤ self.old.spare }
-        ensures { (self.new.settings ≡ self.old.settings) × (self.new.state ≡ after self.old.state next) }
+        requires room { needs next.entry ≤ self.old.spare }
+        ensures { (self.new.settings ≡ self.old.settings) × (self.new.state ≡ after self.old.settings self.old.state next.entry) }
     {
+        let size = next.size;
+        let plain = next.plain;
         match next.change {
-            Change::Add(key, shape) => self.put(key, shape),
-            Change::DropZone(key) => self.remove(key),
-            Change::Replace(key, shape) => self.reshape(key, shape),
+            Change::Add(key, zone) => self.put(key, zone, size, plain),
+            Change::DropZone(key) => self.remove(key, size, plain),
+            Change::Replace(key, zone) => self.reshape(key, zone, size, plain),
         }
     }
 
-    fn put(&mut self, key: u32, shape: Shape)
-        requires prepared { IsFor self.old.settings self.old.state (Add key shape) }
+    fn put(&mut self, key: u32, zone: Standing, size: u64, plain: u64)
+        requires prepared { IsFor self.old.settings self.old.state (record { entry = Add key zone.shape; size = size; plain = plain; cells = self.old.settings.cells }) }
+        requires level { zone.level ≡ level_of zone.shape self.old.settings.cells }
         requires room { 1 ≤ self.old.spare }
-        ensures { (self.new.settings ≡ self.old.settings) × (self.new.state ≡ after self.old.state (Add key shape)) }
+        ensures { (self.new.settings ≡ self.old.settings) × (self.new.state ≡ after self.old.settings self.old.state (Add key zone.shape)) }
     {
         let Err(at) = place(&self.keys, key) else {
             unreachable!()
         };
-        let bounds = bounds_of(&shape);
         let Ok(()) = self.keys.insert(at, key) else {
             unreachable!()
         };
-        let Ok(()) = self.shapes.insert(at, shape) else {
+        let Ok(()) = self.standings.insert(at, zone) else {
             unreachable!()
         };
-        let Ok(()) = self.boxes.insert(at, bounds) else {
-            unreachable!()
-        };
+        self.size = size;
+        self.plain = plain;
     }
 
-    fn remove(&mut self, key: u32)
-        requires { IsFor self.old.settings self.old.state (DropZone key) }
-        ensures { (self.new.settings ≡ self.old.settings) × (self.new.state ≡ after self.old.state (DropZone key)) }
+    fn remove(&mut self, key: u32, size: u64, plain: u64)
+        requires { IsFor self.old.settings self.old.state (record { entry = DropZone key; size = size; plain = plain; cells = self.old.settings.cells }) }
+        ensures { (self.new.settings ≡ self.old.settings) × (self.new.state ≡ after self.old.settings self.old.state (DropZone key)) }
     {
         let Ok(at) = place(&self.keys, key) else {
             unreachable!()
         };
         self.keys.remove(at);
-        self.shapes.remove(at);
-        self.boxes.remove(at);
+        self.standings.remove(at);
+        self.size = size;
+        self.plain = plain;
     }
 
-    fn reshape(&mut self, key: u32, shape: Shape)
-        requires { IsFor self.old.settings self.old.state (Replace key shape) }
-        ensures { (self.new.settings ≡ self.old.settings) × (self.new.state ≡ after self.old.state (Replace key shape)) }
+    fn reshape(&mut self, key: u32, zone: Standing, size: u64, plain: u64)
+        requires prepared { IsFor self.old.settings self.old.state (record { entry = Replace key zone.shape; size = size; plain = plain; cells = self.old.settings.cells }) }
+        requires level { zone.level ≡ level_of zone.shape self.old.settings.cells }
+        ensures { (self.new.settings ≡ self.old.settings) × (self.new.state ≡ after self.old.settings self.old.state (Replace key zone.shape)) }
     {
         let Ok(at) = place(&self.keys, key) else {
             unreachable!()
         };
-        self.boxes[at] = bounds_of(&shape);
-        self.shapes[at] = shape;
+        self.standings[at] = zone;
+        self.size = size;
+        self.plain = plain;
+    }
+
+    /// The Size of the state: the rows of its nodes, of their lists and of the chains of its zones.
+    pub fn size(&self) -> u64
+        ensures { result ≡ size_of self.now.settings self.now.state }
+    {
+        self.size
+    }
+
+    /// The leaf that holds the point. On each level down to it it looks at each zone once, and it takes no memory.
+    pub fn leaf(&self, p: Point) -> Cell
+        ensures { result ≡ leaf_of self.now.settings self.now.state p }
+    {
+        let last = self.standings.len();
+        leaf_in(&self.standings, last, None, last, &self.marks, p)
+    }
+
+    /// The references of a leaf, by ascending key: a reference to each zone that isn't Outside on it. It looks at each
+    /// zone once.
+    pub fn refs(&self, alloc: Global, cell: Cell) -> Result<ZoneRefs, NoMemory>
+        ensures { IfOk result (λ refs. refs ≡ refs_of self.now.state.zones cell) }
+    {
+        let mut refs = Vec::new(alloc);
+        push_refs(&mut refs, &self.keys, &self.standings, cell)?;
+        Ok(ZoneRefs::from_vec(refs))
     }
 
     /// How many zones stand.
@@ -209,18 +300,16 @@ impl Super {
         requires { i < length self.now.state.zones }
         ensures { result.now ≡ zone_shape_at self.now.state.zones i }
     {
-        &self.shapes[i as usize]
+        &self.standings[i as usize].shape
     }
 
-    /// Whether the zone, counted from 0 by ascending key, contains the point.
-    ///
-    /// It looks at the box of the zone's vertices first, and at each edge only where the point lies in
-    /// that box.
+    /// Whether the point is inside the shape of a zone, counted from 0 by ascending key. A point outside
+    /// of the zone's box takes constant time.
+    #[inline]
     pub fn zone_contains(&self, i: u32, p: Point) -> bool
         requires { i < length self.now.state.zones }
         ensures { result ≡ is_inside (zone_shape_at self.now.state.zones i) p }
     {
-        let at = i as usize;
-        bounded_inside(&self.shapes[at], self.boxes[at], p)
+        self.standings[i as usize].contains(p)
     }
 }

@@ -1,38 +1,58 @@
 //! Worked updates: zones that come, go and change, and updates that are turned away.
 
-use crate::{Super, Verdict};
+use crate::{Super, Verdict, ZoneRef};
 use act_geom::Shape;
-use act_grid::{Point, Settings};
+use act_grid::{Cell, Point, Settings};
 use std::alloc::Global;
 use std::test::Fail;
 
-fn square(alloc: Global, low: i32, high: i32) -> Result<Shape, Fail> {
+fn square(alloc: Global, x: i32, y: i32, side: i32) -> Result<Shape, Fail> {
     let mut shape = Shape::new(alloc);
     let at = |x, y| Point { x, y };
-    shape.push_ring(&[at(low, low), at(high, low), at(high, high), at(low, high)])?;
+    let ring = [
+        at(x, y),
+        at(x + side, y),
+        at(x + side, y + side),
+        at(x, y + side),
+    ];
+    shape.push_ring(&ring)?;
     Ok(shape)
 }
 
-/// A state with these zones, each the square from 0 to its key.
-fn state_of(alloc: Global, keys: &[u8]) -> Result<Super, Fail> {
-    let settings = Settings::new(0, 16_384, 64, 4).ok_or("limits")?;
-    let mut state = Super::new(alloc, settings);
-    for key in keys {
-        match state.prepare_add(u32::from(*key), square(alloc, 0, i32::from(*key))?) {
-            Ok(next) => state.commit(next),
-            Err(turned) => return Err(turned.why.into()),
+fn empty(alloc: Global, rows: u32, cells: u32) -> Result<Super, Fail> {
+    let settings = Settings::new(0, rows, cells, 4).ok_or("limits")?;
+    Ok(Super::new(alloc, settings))
+}
+
+/// Adds a zone, and tells why it was turned away.
+fn add(state: &mut Super, alloc: Global, key: u32, shape: Shape) -> Option<Verdict> {
+    match state.prepare_add(alloc, key, shape) {
+        Ok(next) => {
+            state.commit(next);
+            None
         }
+        Err(turned) => Some(turned.why),
     }
-    Ok(state)
+}
+
+fn drop_zone(state: &mut Super, alloc: Global, key: u32) -> Option<Verdict> {
+    match state.prepare_drop(alloc, key) {
+        Ok(next) => {
+            state.commit(next);
+            None
+        }
+        Err(why) => Some(why),
+    }
 }
 
 #[test]
 fn zones_stand_by_key(rt: HostRuntime) -> Result<(), Fail> {
-    let mut state = state_of(rt.alloc(), &[7, 2, 9, 4])?;
-    match state.prepare_drop(4) {
-        Ok(next) => state.commit(next),
-        Err(why) => return Err(why.into()),
+    let alloc = rt.alloc();
+    let mut state = empty(alloc, 16_384, 64)?;
+    for key in [7, 2, 9, 4] {
+        assert_eq!(rt; add(&mut state, alloc, key, square(alloc, 0, 0, 5)?), None);
     }
+    assert_eq!(rt; drop_zone(&mut state, alloc, 4), None);
     assert_eq!(rt; state.zones(), 3);
     for (i, key) in [2, 7, 9].iter().enumerate() {
         assert_eq!(rt; state.zone_key(i as u32), *key);
@@ -44,32 +64,34 @@ fn zones_stand_by_key(rt: HostRuntime) -> Result<(), Fail> {
 #[test]
 fn updates_are_turned_away(rt: HostRuntime) -> Result<(), Fail> {
     let alloc = rt.alloc();
-    let mut state = state_of(alloc, &[7])?;
-    let twice = state.prepare_add(7, square(alloc, 0, 5)?).err();
+    let mut state = empty(alloc, 16_384, 64)?;
+    assert_eq!(rt; add(&mut state, alloc, 7, square(alloc, 0, 0, 10)?), None);
+    let twice = state.prepare_add(alloc, 7, square(alloc, 0, 0, 5)?).err();
     let twice = twice.ok_or("accepted")?;
     assert_eq!(rt;
         (twice.why, twice.shape.vertices()),
         (Verdict::Duplicate, 4)
     );
-    assert_eq!(rt; state.prepare_drop(9).err(), Some(Verdict::Unknown));
-    let absent = state.prepare_replace(9, square(alloc, 0, 5)?).err();
-    assert_eq!(rt; absent.ok_or("accepted")?.why, Verdict::Unknown);
-    let same = state.prepare_replace(7, square(alloc, 0, 7)?).err();
-    assert_eq!(rt; same.ok_or("accepted")?.why, Verdict::Same);
+    assert_eq!(rt; drop_zone(&mut state, alloc, 9), Some(Verdict::Unknown));
+    let absent = state.prepare_replace(alloc, 9, square(alloc, 0, 0, 5)?);
+    assert_eq!(rt; absent.err().ok_or("accepted")?.why, Verdict::Unknown);
+    let same = state.prepare_replace(alloc, 7, square(alloc, 0, 0, 10)?);
+    assert_eq!(rt; same.err().ok_or("accepted")?.why, Verdict::Same);
     Ok(())
 }
 
 #[test]
 fn changes_tell_what_they_change(rt: HostRuntime) -> Result<(), Fail> {
     let alloc = rt.alloc();
-    let mut state = state_of(alloc, &[7])?;
-    let Ok(next) = state.prepare_replace(7, square(alloc, 0, 5)?) else {
+    let mut state = empty(alloc, 16_384, 64)?;
+    assert_eq!(rt; add(&mut state, alloc, 7, square(alloc, 0, 0, 10)?), None);
+    let Ok(next) = state.prepare_replace(alloc, 7, square(alloc, 0, 0, 5)?) else {
         return Err("turned away".into());
     };
-    assert_eq!(rt; next.key(), Some(7));
+    assert_eq!(rt; (next.key(), next.size()), (Some(7), 8));
     assert!(rt; next.shape().is_some());
     state.commit(next);
-    let Ok(next) = state.prepare_add(8, square(alloc, 0, 5)?) else {
+    let Ok(next) = state.prepare_add(alloc, 8, square(alloc, 0, 0, 5)?) else {
         return Err("turned away".into());
     };
     assert!(rt; next.into_shape().is_some());
@@ -77,38 +99,58 @@ fn changes_tell_what_they_change(rt: HostRuntime) -> Result<(), Fail> {
     Ok(())
 }
 
-// The zone is the square from 0 to 7. Its left and lower sides belong to it, the others don't.
+/// A square whose one cell of level 28 lies in seven nodes, and two such squares far apart.
 #[test]
-fn a_zone_contains_points(rt: HostRuntime) -> Result<(), Fail> {
-    let state = state_of(rt.alloc(), &[7])?;
-    assert_eq!(rt; state.zones(), 1);
-    for (x, y, want) in [
-        (0, 0, true),
-        (6, 6, true),
-        (-1, 3, false),
-        (7, 3, false),
-        (3, -1, false),
-        (3, 7, false),
-    ] {
-        assert_eq!(rt; state.zone_contains(0, Point { x, y }), want, "at {x} {y}");
-    }
+fn rows_are_counted(rt: HostRuntime) -> Result<(), Fail> {
+    let alloc = rt.alloc();
+    let mut state = empty(alloc, 8, 64)?;
+    assert_eq!(rt; state.size(), 1);
+    assert_eq!(rt; add(&mut state, alloc, 7, square(alloc, 0, 0, 10)?), None);
+    assert_eq!(rt; state.size(), 8);
+    let turned = add(&mut state, alloc, 2, square(alloc, -1008, -1008, 10)?);
+    assert_eq!(rt; turned, Some(Verdict::Rows { need: 15, limit: 8 }));
+    assert_eq!(rt; drop_zone(&mut state, alloc, 7), None);
+    assert_eq!(rt;
+        add(&mut state, alloc, 2, square(alloc, -1008, -1008, 10)?),
+        None
+    );
+    assert_eq!(rt; state.size(), 8);
     Ok(())
 }
 
-// The point lies in the box of a triangle, and outside of the triangle.
+/// The square's one leaf has level 28 and one candidate.
 #[test]
-fn a_box_is_more_than_its_zone(rt: HostRuntime) -> Result<(), Fail> {
+fn leaves_have_references(rt: HostRuntime) -> Result<(), Fail> {
     let alloc = rt.alloc();
-    let mut state = state_of(alloc, &[])?;
-    let mut shape = Shape::new(alloc);
-    let at = |x, y| Point { x, y };
-    shape.push_ring(&[at(0, 0), at(10, 0), at(0, 10)])?;
-    match state.prepare_add(1, shape) {
-        Ok(next) => state.commit(next),
-        Err(turned) => return Err(turned.why.into()),
+    let mut state = empty(alloc, 16_384, 64)?;
+    let origin = Point { x: 0, y: 0 };
+    assert_eq!(rt; state.leaf(origin), Cell::root());
+    assert_eq!(rt; add(&mut state, alloc, 7, square(alloc, 0, 0, 10)?), None);
+    let leaf = state.leaf(origin);
+    assert_eq!(rt; (leaf.level(), leaf.id()), (28, 1_729_382_256_910_270_480));
+    let refs = state.refs(alloc, leaf)?;
+    assert_eq!(rt;
+        refs.as_slice(),
+        [ZoneRef { key: 7, hit: false }].as_slice()
+    );
+    let far = state.leaf(Point { x: -1, y: -1 });
+    assert!(rt; state.refs(alloc, far)?.as_slice().is_empty());
+    Ok(())
+}
+
+/// Squares over the origin with a budget of one cell, all of them on the root, and one more than a leaf may have.
+#[test]
+fn references_are_counted(rt: HostRuntime) -> Result<(), Fail> {
+    let alloc = rt.alloc();
+    let mut state = empty(alloc, 16_384, 1)?;
+    for key in 0..510 {
+        assert_eq!(rt;
+            add(&mut state, alloc, key, square(alloc, -5, -5, 10)?),
+            None
+        );
     }
-    assert_eq!(rt; state.zones(), 1);
-    assert!(rt; state.zone_contains(0, Point { x: 2, y: 2 }));
-    assert!(rt; !state.zone_contains(0, Point { x: 9, y: 9 }));
+    assert_eq!(rt; state.size(), 512);
+    let turned = add(&mut state, alloc, 510, square(alloc, -5, -5, 10)?);
+    assert_eq!(rt; turned, Some(Verdict::Refs { need: 511 }));
     Ok(())
 }

@@ -11,6 +11,18 @@ pub enum Verdict {
     Unknown,
     /// A replaced zone has that shape already.
     Same,
+    /// Some leaf would have more than 510 references, where no cell is trained.
+    Refs {
+        /// The greatest number of references of a leaf.
+        need: u32,
+    },
+    /// The index would take more rows than the settings have, where no cell is trained.
+    Rows {
+        /// The rows that it would take.
+        need: u64,
+        /// The rows of the settings.
+        limit: u32,
+    },
     /// There was not memory enough.
     NoMemory,
 }

@@ -1,23 +1,55 @@
-use Rattle.std.proofs.Common.{◌≡◌, ap, sym, arith, length, ◌<◌, ◌≤◌, ℕ, get_or, true, false, inr, refl}
-use Rattle.act_super.specs.States.{Plain, has_key}
+use Rattle.std.proofs.Common.{◌≡◌, ap, sym, arith, true, false, None, inr, refl, ◌∙◌, []}
+use Rattle.std.specs.Prelude.{◌+◌}
+use Rattle.std.proofs.lemmas.Result.{err_from_is_err_and}
+use Rattle.act_super.specs.declared.entry.Entry.TheVariants as entry
 use Rattle.act_super.specs.Places.{zones_with}
+use Rattle.act_super.specs.Standings.{shapes_in, standing_most, standing_rows}
+use Rattle.act_super.specs.States.{Plain, has_key, key_verdict, room_of}
 use Rattle.act_super.proofs.Keyed.{has_found, has_free}
+use Rattle.act_super.proofs.StateFacts.{IsAt, IsFree, IsHeld, held_accepted, held_dropped, held_rows, joined, length_shapes, prepared, turned}
 use Rattle.act_super.proofs.state.Super.prepare_drop.Goals as goal
 
 pub returns-in_default-clause-err : goal.returns-in_default-clause-err
 returns-in_default-clause-err c =
-    let zones : c.args.self.now.state.zones ≡ zones_with c.self.inside.keys.items c.self.inside.shapes.items = ap (λ (p : Plain). p.state.zones) (sym c.self.view_is) in
-    let place : (c.in_default.field-0 ≤ length c.self.inside.keys.items) × ((k : ℕ) → k < c.in_default.field-0 → get_or c.self.inside.keys.items k 0 < c.args.key)
-    × ((k : ℕ) → c.in_default.field-0 ≤ k → k < length c.self.inside.keys.items → c.args.key < get_or c.self.inside.keys.items k 0) =
-    rw c.deref.ensures.value at c.in_default.ensures in
-    let missing : has_key c.args.key c.args.self.now.state.zones ≡ false =
-    rw zones (has_free c.args.key c.self.inside.keys.items c.self.inside.shapes.items _ place.1 place.2) in
+    let zones : c.args.self.now.state.zones ≡ zones_with c.self.inside.keys.items (shapes_in c.self.inside.standings.items) = ap (λ (p : Plain). p.state.zones) (sym c.self.view_is) in
+    let place : IsFree c.args.key c.self.inside.keys.items c.in_default.field-0 = rw c.deref.ensures.value at c.in_default.ensures in
+    let missing : has_key c.args.key c.args.self.now.state.zones ≡ false = rw zones (has_free c.args.key c.self.inside.keys.items (shapes_in c.self.inside.standings.items) _ place.1 place.2) in
     inr (rw missing refl)
+
+pub returns-in_err-size-clause-err : goal.returns-in_err-size-clause-err
+returns-in_err-size-clause-err c =
+    let settings : c.args.self.now.settings ≡ c.self.inside.settings = ap (λ (p : Plain). p.settings) (sym c.self.view_is) in
+    let zones : c.args.self.now.state.zones ≡ zones_with c.self.inside.keys.items (shapes_in c.self.inside.standings.items) = ap (λ (p : Plain). p.state.zones) (sym c.self.view_is) in
+    let place : IsAt c.args.key c.self.inside.keys.items c.in-Ok.at = rw c.deref.ensures.value at c.in-Ok.ensures in
+    let held : IsHeld c.self.inside.settings c.args.self.now.state.zones c.self.inside.keys.items c.self.inside.standings.items =
+    record { zones_are = zones; lengths = c.self.invariant.lengths; levels = c.self.invariant.levels } in
+    let lengths = length_shapes c.self.inside.standings.items ∙ c.self.invariant.lengths in
+    let found : has_key c.args.key c.args.self.now.state.zones ≡ true = rw zones (has_found c.args.key c.self.inside.keys.items (shapes_in c.self.inside.standings.items) c.in-Ok.at lengths place.0 place.1) in
+    let less = held_dropped c.self.inside.settings c.args.self.now.state.zones c.self.inside.keys.items c.self.inside.standings.items held c.self.invariant.rising c.args.key c.in-Ok.at place in
+    let stands : key_verdict c.args.self.now.state.zones (entry.DropZone c.args.key) ≡ None = rw found refl in
+    let here = ap (λ ss. joined ss c.in-Ok.at [] (c.in-Ok.at + 1)) c.deref-2.ensures.value in
+    let cause = turned c.self.inside.settings _ _ _ (joined c.deref-2.result.now c.in-Ok.at [] (c.in-Ok.at + 1)) _ c.in_err-size.field-0.0 less here stands c.in_err-size.ensures.err in
+    let p = err_from_is_err_and c.from_residual.result c.from_residual.ensures.1 in
+    rw (p.1, p.2) (rw settings cause)
 
 pub returns-clause-ok : goal.returns-clause-ok
 returns-clause-ok c =
-    let zones : c.args.self.now.state.zones ≡ zones_with c.self.inside.keys.items c.self.inside.shapes.items = ap (λ (p : Plain). p.state.zones) (sym c.self.view_is) in
-    let place : (c.in-Ok.field-0 < length c.self.inside.keys.items) × (get_or c.self.inside.keys.items c.in-Ok.field-0 0 ≡ c.args.key) = rw c.deref.ensures.value at c.in-Ok.ensures in
-    let found : has_key c.args.key c.args.self.now.state.zones ≡ true =
-    rw zones (has_found c.args.key c.self.inside.keys.items c.self.inside.shapes.items c.in-Ok.field-0 c.self.invariant.0 place.0 place.1) in
-    (refl, record { accepted = rw found refl }, omega arith)
+    let settings : c.args.self.now.settings ≡ c.self.inside.settings = ap (λ (p : Plain). p.settings) (sym c.self.view_is) in
+    let zones : c.args.self.now.state.zones ≡ zones_with c.self.inside.keys.items (shapes_in c.self.inside.standings.items) = ap (λ (p : Plain). p.state.zones) (sym c.self.view_is) in
+    let trained : [] ≡ c.args.self.now.state.trained = sym (ap (λ (p : Plain). p.state.trained) (sym c.self.view_is) ∙ c.self.invariant.untrained) in
+    let place : IsAt c.args.key c.self.inside.keys.items c.in-Ok.at = rw c.deref.ensures.value at c.in-Ok.ensures in
+    let held : IsHeld c.self.inside.settings c.args.self.now.state.zones c.self.inside.keys.items c.self.inside.standings.items =
+    record { zones_are = zones; lengths = c.self.invariant.lengths; levels = c.self.invariant.levels } in
+    let lengths = length_shapes c.self.inside.standings.items ∙ c.self.invariant.lengths in
+    let found : has_key c.args.key c.args.self.now.state.zones ≡ true = rw zones (has_found c.args.key c.self.inside.keys.items (shapes_in c.self.inside.standings.items) c.in-Ok.at lengths place.0 place.1) in
+    let less = held_dropped c.self.inside.settings c.args.self.now.state.zones c.self.inside.keys.items c.self.inside.standings.items held c.self.invariant.rising c.args.key c.in-Ok.at place in
+    let stands : key_verdict c.args.self.now.state.zones (entry.DropZone c.args.key) ≡ None = rw found refl in
+    let here = ap (λ ss. joined ss c.in-Ok.at [] (c.in-Ok.at + 1)) c.deref-2.ensures.value in
+    let told = c.in_ok-size.ensures.ok in
+    let size = told.0 ∙ ap (standing_rows []) here in
+    let fits = ap (λ ss. room_of c.self.inside.settings.rows (standing_most ss) c.in_ok-size.size) (sym here) ∙ told.1 in
+    let room = held_accepted c.self.inside.settings _ _ _ c.in_ok-size.size less size fits in (
+      refl,
+      rw settings (prepared c.self.inside.settings c.args.self.now.state (entry.DropZone c.args.key) c.in_ok-size.size _ trained refl refl stands room fits (size ∙ held_rows c.self.inside.settings _ _ _ [] less)),
+      omega arith,
+    )

@@ -1,41 +1,74 @@
-use Rattle.std.proofs.Common.{◌≡◌, ◌∙◌, ap, sym, arith, length, ◌<◌, ◌≤◌, ℕ, get_or, true, false, [], inr, refl}
-use Rattle.act_super.specs.States.{Plain, has_key, has_zone}
+use Rattle.std.proofs.Common.{◌≡◌, ap, sym, arith, true, false, None, inr, refl, ◌∙◌, [], ◌∷◌}
+use Rattle.std.specs.Prelude.{◌+◌}
+use Rattle.act_cover.specs.Level.{level_of}
+use Rattle.act_super.specs.declared.entry.Entry.TheVariants as entry
 use Rattle.act_super.specs.Places.{zones_with}
-use Rattle.std.proofs.lemmas.List.{get_or_default}
 use Rattle.act_super.specs.Shapes.{same_rings}
+use Rattle.act_super.specs.Standings.{shapes_in, standing_most, standing_rows}
+use Rattle.act_super.specs.States.{Plain, has_key, has_zone, key_verdict, room_of}
 use Rattle.act_super.proofs.Keyed.{has_found, has_free, zone_is}
+use Rattle.act_super.proofs.StateFacts.{IsAt, IsFree, IsHeld, held_accepted, held_reshaped, held_rows, joined, length_shapes, prepared, shape_at_place, turned}
 use Rattle.act_super.proofs.state.Super.prepare_replace.Goals as goal
 
 pub returns-in_default-clause-err : goal.returns-in_default-clause-err
 returns-in_default-clause-err c =
-    let zones : c.args.self.now.state.zones ≡ zones_with c.self.inside.keys.items c.self.inside.shapes.items = ap (λ (p : Plain). p.state.zones) (sym c.self.view_is) in
-    let place : (c.in_default.field-0 ≤ length c.self.inside.keys.items) × ((k : ℕ) → k < c.in_default.field-0 → get_or c.self.inside.keys.items k 0 < c.args.key)
-    × ((k : ℕ) → c.in_default.field-0 ≤ k → k < length c.self.inside.keys.items → c.args.key < get_or c.self.inside.keys.items k 0) =
-    rw c.deref.ensures.value at c.in_default.ensures in
-    let missing : has_key c.args.key c.args.self.now.state.zones ≡ false =
-    rw zones (has_free c.args.key c.self.inside.keys.items c.self.inside.shapes.items _ place.1 place.2) in
+    let zones : c.args.self.now.state.zones ≡ zones_with c.self.inside.keys.items (shapes_in c.self.inside.standings.items) = ap (λ (p : Plain). p.state.zones) (sym c.self.view_is) in
+    let place : IsFree c.args.key c.self.inside.keys.items c.in_default.field-0 = rw c.deref.ensures.value at c.in_default.ensures in
+    let missing : has_key c.args.key c.args.self.now.state.zones ≡ false = rw zones (has_free c.args.key c.self.inside.keys.items (shapes_in c.self.inside.standings.items) _ place.1 place.2) in
     (refl, inr (rw missing refl))
 
 pub returns-then-same-clause-err : goal.returns-then-same-clause-err
 returns-then-same-clause-err c =
-    let zones : c.args.self.now.state.zones ≡ zones_with c.self.inside.keys.items c.self.inside.shapes.items = ap (λ (p : Plain). p.state.zones) (sym c.self.view_is) in
-    let place : (c.in-Ok.at < length c.self.inside.keys.items) × (get_or c.self.inside.keys.items c.in-Ok.at 0 ≡ c.args.key) = rw c.deref.ensures.value at c.in-Ok.ensures in
-    let found : has_key c.args.key c.args.self.now.state.zones ≡ true =
-    rw zones (has_found c.args.key c.self.inside.keys.items c.self.inside.shapes.items c.in-Ok.at c.self.invariant.0 place.0 place.1) in
-    let here = zone_is c.args.key 0 c.args.shape c.self.inside.keys.items c.self.inside.shapes.items c.in-Ok.at c.self.invariant.1 c.self.invariant.0 place.0 place.1 in
-    let its = c.index.ensures ∙ get_or_default c.self.inside.shapes.items c.in-Ok.at _ [] (omega (arith, place.0, c.self.invariant.0)) in
+    let zones : c.args.self.now.state.zones ≡ zones_with c.self.inside.keys.items (shapes_in c.self.inside.standings.items) = ap (λ (p : Plain). p.state.zones) (sym c.self.view_is) in
+    let place : IsAt c.args.key c.self.inside.keys.items c.in-Ok.at = rw c.deref.ensures.value at c.in-Ok.ensures in
+    let lengths = length_shapes c.self.inside.standings.items ∙ c.self.invariant.lengths in
+    let found : has_key c.args.key c.args.self.now.state.zones ≡ true = rw zones (has_found c.args.key c.self.inside.keys.items (shapes_in c.self.inside.standings.items) c.in-Ok.at lengths place.0 place.1) in
+    let shape_here = zone_is c.args.key 0 c.args.shape c.self.inside.keys.items (shapes_in c.self.inside.standings.items) c.in-Ok.at c.self.invariant.rising lengths place.0 place.1 in
+    let its = shape_at_place c.self.inside.standings.items c.in-Ok.at _ c.index.ensures (omega (arith, place.0, c.self.invariant.lengths)) in
     let stands : has_zone c.args.key c.args.shape c.args.self.now.state.zones ≡ true =
-    rw zones (here ∙ ap (λ rings. same_rings rings c.args.shape) (sym its) ∙ sym c.same.ensures ∙ c.if-same.true) in
+    rw zones (shape_here ∙ ap (λ rings. same_rings rings c.args.shape) (sym its) ∙ sym c.same.ensures ∙ c.if-same.true) in
     (refl, inr (rw (found, stands) refl))
+
+pub returns-in-Err-clause-err : goal.returns-in-Err-clause-err
+returns-in-Err-clause-err c =
+    let settings : c.args.self.now.settings ≡ c.self.inside.settings = ap (λ (p : Plain). p.settings) (sym c.self.view_is) in
+    let zones : c.args.self.now.state.zones ≡ zones_with c.self.inside.keys.items (shapes_in c.self.inside.standings.items) = ap (λ (p : Plain). p.state.zones) (sym c.self.view_is) in
+    let place : IsAt c.args.key c.self.inside.keys.items c.in-Ok.at = rw c.deref.ensures.value at c.in-Ok.ensures in
+    let held : IsHeld c.self.inside.settings c.args.self.now.state.zones c.self.inside.keys.items c.self.inside.standings.items =
+    record { zones_are = zones; lengths = c.self.invariant.lengths; levels = c.self.invariant.levels } in
+    let lengths = length_shapes c.self.inside.standings.items ∙ c.self.invariant.lengths in
+    let found : has_key c.args.key c.args.self.now.state.zones ≡ true = rw zones (has_found c.args.key c.self.inside.keys.items (shapes_in c.self.inside.standings.items) c.in-Ok.at lengths place.0 place.1) in
+    let shape_here = zone_is c.args.key 0 c.args.shape c.self.inside.keys.items (shapes_in c.self.inside.standings.items) c.in-Ok.at c.self.invariant.rising lengths place.0 place.1 in
+    let its = shape_at_place c.self.inside.standings.items c.in-Ok.at _ c.index.ensures (omega (arith, place.0, c.self.invariant.lengths)) in
+    let differs : has_zone c.args.key c.args.shape c.args.self.now.state.zones ≡ false =
+    rw zones (shape_here ∙ ap (λ rings. same_rings rings c.args.shape) (sym its) ∙ sym c.same.ensures ∙ c.if-same.false) in
+    let other = held_reshaped c.self.inside.settings c.args.self.now.state.zones c.self.inside.keys.items c.self.inside.standings.items held c.self.invariant.rising c.args.key c.args.shape c.new-zone.result c.in-Ok.at c.new-zone.ensures.shape c.new-zone.ensures.level place in
+    let stands : key_verdict c.args.self.now.state.zones (entry.Replace c.args.key c.args.shape) ≡ None = rw (found, differs) refl in
+    let here = ap (λ ss. joined ss c.in-Ok.at (c.new-zone.result ∷ []) (c.in-Ok.at + 1)) c.deref-2.ensures.value in
+    (c.new-zone.ensures.shape, rw settings (turned c.self.inside.settings _ _ _ (joined c.deref-2.result.now c.in-Ok.at (c.new-zone.result ∷ []) (c.in-Ok.at + 1)) _ c.in-Err.why other here stands c.in-Err.ensures.err))
 
 pub returns-clause-ok : goal.returns-clause-ok
 returns-clause-ok c =
-    let zones : c.args.self.now.state.zones ≡ zones_with c.self.inside.keys.items c.self.inside.shapes.items = ap (λ (p : Plain). p.state.zones) (sym c.self.view_is) in
-    let place : (c.in-Ok.at < length c.self.inside.keys.items) × (get_or c.self.inside.keys.items c.in-Ok.at 0 ≡ c.args.key) = rw c.deref.ensures.value at c.in-Ok.ensures in
-    let found : has_key c.args.key c.args.self.now.state.zones ≡ true =
-    rw zones (has_found c.args.key c.self.inside.keys.items c.self.inside.shapes.items c.in-Ok.at c.self.invariant.0 place.0 place.1) in
-    let here = zone_is c.args.key 0 c.args.shape c.self.inside.keys.items c.self.inside.shapes.items c.in-Ok.at c.self.invariant.1 c.self.invariant.0 place.0 place.1 in
-    let its = c.index.ensures ∙ get_or_default c.self.inside.shapes.items c.in-Ok.at _ [] (omega (arith, place.0, c.self.invariant.0)) in
-    let differs : has_zone c.args.key c.args.shape c.args.self.now.state.zones ≡ false =
-    rw zones (here ∙ ap (λ rings. same_rings rings c.args.shape) (sym its) ∙ sym c.same.ensures ∙ c.if-same.false) in
-    (refl, record { accepted = rw (found, differs) refl }, omega arith)
+    let settings : c.args.self.now.settings ≡ c.self.inside.settings = ap (λ (p : Plain). p.settings) (sym c.self.view_is) in
+    let zones : c.args.self.now.state.zones ≡ zones_with c.self.inside.keys.items (shapes_in c.self.inside.standings.items) = ap (λ (p : Plain). p.state.zones) (sym c.self.view_is) in
+    let trained : [] ≡ c.args.self.now.state.trained = sym (ap (λ (p : Plain). p.state.trained) (sym c.self.view_is) ∙ c.self.invariant.untrained) in
+    let place : IsAt c.args.key c.self.inside.keys.items c.in-Ok.at = rw c.deref.ensures.value at c.in-Ok.ensures in
+    let held : IsHeld c.self.inside.settings c.args.self.now.state.zones c.self.inside.keys.items c.self.inside.standings.items =
+    record { zones_are = zones; lengths = c.self.invariant.lengths; levels = c.self.invariant.levels } in
+    let lengths = length_shapes c.self.inside.standings.items ∙ c.self.invariant.lengths in
+    let found : has_key c.args.key c.args.self.now.state.zones ≡ true = rw zones (has_found c.args.key c.self.inside.keys.items (shapes_in c.self.inside.standings.items) c.in-Ok.at lengths place.0 place.1) in
+    let shape_here = zone_is c.args.key 0 c.args.shape c.self.inside.keys.items (shapes_in c.self.inside.standings.items) c.in-Ok.at c.self.invariant.rising lengths place.0 place.1 in
+    let its = shape_at_place c.self.inside.standings.items c.in-Ok.at _ c.index.ensures (omega (arith, place.0, c.self.invariant.lengths)) in
+    let differs : has_zone c.args.key c.new-zone.result.shape c.args.self.now.state.zones ≡ false =
+    ap (λ r. has_zone c.args.key r c.args.self.now.state.zones) c.new-zone.ensures.shape ∙ rw zones (shape_here ∙ ap (λ rings. same_rings rings c.args.shape) (sym its) ∙ sym c.same.ensures ∙ c.if-same.false) in
+    let other = held_reshaped c.self.inside.settings c.args.self.now.state.zones c.self.inside.keys.items c.self.inside.standings.items held c.self.invariant.rising c.args.key c.new-zone.result.shape c.new-zone.result c.in-Ok.at refl (c.new-zone.ensures.level ∙ ap (λ r. level_of r c.self.inside.settings.cells) (sym c.new-zone.ensures.shape)) place in
+    let stands : key_verdict c.args.self.now.state.zones (entry.Replace c.args.key c.new-zone.result.shape) ≡ None = rw (found, differs) refl in
+    let here = ap (λ ss. joined ss c.in-Ok.at (c.new-zone.result ∷ []) (c.in-Ok.at + 1)) c.deref-2.ensures.value in
+    let told = c.in-Ok-room.ensures.ok in
+    let size = told.0 ∙ ap (standing_rows []) here in
+    let fits = ap (λ ss. room_of c.self.inside.settings.rows (standing_most ss) c.in-Ok-room.size) (sym here) ∙ told.1 in
+    let room = held_accepted c.self.inside.settings _ _ _ c.in-Ok-room.size other size fits in (
+      ap (λ r. entry.Replace c.args.key r) c.new-zone.ensures.shape,
+      rw settings (prepared c.self.inside.settings c.args.self.now.state (entry.Replace c.args.key c.new-zone.result.shape) c.in-Ok-room.size _ trained refl refl stands room fits (size ∙ held_rows c.self.inside.settings _ _ _ [] other)),
+      omega arith,
+    )

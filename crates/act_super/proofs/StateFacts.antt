@@ -1,0 +1,245 @@
+-- Changed zones and their standings.
+use Rattle.std.proofs.Common.{◌≡◌, ℕ, ◌+◌, ◌<◌, ◌≤◌, ◌⊎◌, inl, inr, refl, sym, ap, ◌∙◌, arith, append_assoc, add-one, length-set, Bool, true, false, List, [], ◌∷◌, ◌++◌, Option, Some, None, length, map, take, drop, set, get_or}
+use Rattle.std.specs.Prelude.{insert, remove, nat_lt, slice_index_or, if◌then◌else◌}
+use Rattle.std.proofs.lemmas.Bool.Decides.{nat_tests}
+use Rattle.std.proofs.lemmas.List.{drop-map, get_or-map, length-map, map-append, set_split, take-map}
+use Rattle.std.proofs.lemmas.List.Edits.{length-insert, length-remove}
+use Rattle.std.proofs.lemmas.List.Elements.{All-append, All-cons, All-drop, All-nil, All-take}
+use Rattle.act_grid.specs.declared.Point.{Point}
+use Rattle.act_grid.specs.declared.Settings.{Settings}
+use Rattle.act_grid.specs.Cell.{Address}
+use Rattle.act_cover.specs.Level.{level_of}
+use Rattle.act_super.specs.declared.entry.Entry.{Entry}
+use Rattle.act_super.specs.declared.entry.State.{State}
+use Rattle.act_super.specs.declared.entry.Zone.{Zone}
+use Rattle.act_super.specs.declared.standing.Standing.{Standing}
+use Rattle.act_super.specs.declared.verdict.Verdict.{Verdict}
+use Rattle.act_super.specs.declared.verdict.Verdict.TheVariants as verdict
+use Rattle.act_super.specs.Places.{IsRisingFrom, zones_with}
+use Rattle.act_super.specs.Sizes.{most_references, rows_with}
+use Rattle.act_super.specs.Sound.{IsSound}
+use Rattle.act_super.specs.Standings.{AreLevelled, shapes_in, standing_most, standing_rows}
+use Rattle.act_super.specs.States.{IsFor, Prepared, after, changed, first_cause, key_verdict, reference_limit, reshaped, room_of, room_verdict, trained_after, verdict_of, with_zone, without_key}
+use Rattle.act_super.specs.Training.{fit}
+use Rattle.act_super.proofs.FitFacts.{fit_none}
+use Rattle.act_super.proofs.Keyed.{same_state, put_is, remove_is, reshape_is, shapes_are}
+use Rattle.act_super.proofs.LinkFacts.{rows_of_none, same_most, same_rows}
+
+abbrev shape_of : Standing → List (List Point)
+shape_of s = s.shape
+
+pub length_shapes : (standings : List Standing) → length (shapes_in standings) ≡ length standings
+length_shapes standings = length-map standings shape_of
+
+-- standings before a place, some more, and those from a place on
+abbrev pub joined : List Standing → ℕ → List Standing → ℕ → List Standing
+joined standings i more j = take i standings ++ more ++ drop j standings
+
+-- the shapes of a list that is put together
+shapes_joined : (standings : List Standing) (i j : ℕ) (more : List Standing)
+    → shapes_in (joined standings i more j) ≡ take i (shapes_in standings) ++ shapes_in more ++ drop j (shapes_in standings)
+shapes_joined standings i j more =
+    map-append shape_of (take i standings ++ more) (drop j standings)
+    ∙ ap (λ xs. xs ++ shapes_in (drop j standings)) (map-append shape_of (take i standings) more)
+    ∙ ap (λ xs. (xs ++ shapes_in more) ++ shapes_in (drop j standings)) (sym (take-map shape_of i standings))
+    ∙ ap (λ xs. (take i (shapes_in standings) ++ shapes_in more) ++ xs) (sym (drop-map shape_of j standings))
+
+levels_joined : (cells : ℕ) (standings : List Standing) (i j : ℕ) (more : List Standing) → AreLevelled cells standings → AreLevelled cells more
+    → AreLevelled cells (joined standings i more j)
+levels_joined cells standings i j more all one =
+    let P : Standing → Type 0 = λ s. s.level ≡ level_of s.shape cells in
+    All-append P (take i standings ++ more) (drop j standings) (All-append P (take i standings) more (All-take P i standings all) one) (All-drop P j standings all)
+
+level_one : (cells : ℕ) (z : Standing) → z.level ≡ level_of z.shape cells → AreLevelled cells (z ∷ [])
+level_one cells z e = All-cons (λ (s : Standing). s.level ≡ level_of s.shape cells) z [] e (All-nil (λ (s : Standing). s.level ≡ level_of s.shape cells))
+
+level_none : (cells : ℕ) → AreLevelled cells []
+level_none cells = All-nil (λ (s : Standing). s.level ≡ level_of s.shape cells)
+
+-- standings with these keys are those of the zones
+pub record IsHeld (settings : Settings) (zones : List Zone) (keys : List ℕ) (standings : List Standing) : Type 0 where
+  pub zones_are : zones ≡ zones_with keys (shapes_in standings)
+  pub lengths : length standings ≡ length keys
+  pub levels : AreLevelled settings.cells standings
+
+pub held_rows : (settings : Settings) (zones : List Zone) (keys : List ℕ) (standings : List Standing) (trained : List Address) → IsHeld settings zones keys standings
+    → standing_rows trained standings ≡ rows_with settings zones trained
+held_rows settings zones keys standings trained h =
+    same_rows settings trained zones standings
+    (ap (λ zs. map (λ (z : Zone). z.shape) zs) h.zones_are ∙ shapes_are keys (shapes_in standings) (length_shapes standings ∙ h.lengths)) h.levels
+
+pub held_most : (settings : Settings) (zones : List Zone) (keys : List ℕ) (standings : List Standing) → IsHeld settings zones keys standings
+    → standing_most standings ≡ most_references settings zones
+held_most settings zones keys standings h =
+    same_most settings zones standings
+    (ap (λ zs. map (λ (z : Zone). z.shape) zs) h.zones_are ∙ shapes_are keys (shapes_in standings) (length_shapes standings ∙ h.lengths)) h.levels
+
+-- the place at which a key would stand
+abbrev pub IsFree : ℕ → List ℕ → ℕ → Type 0
+IsFree key keys i = (i ≤ length keys) × ((k : ℕ) → k < i → get_or keys k 0 < key) × ((k : ℕ) → i ≤ k → k < length keys → key < get_or keys k 0)
+
+-- the place at which it stands
+abbrev pub IsAt : ℕ → List ℕ → ℕ → Type 0
+IsAt key keys i = (i < length keys) × (get_or keys i 0 ≡ key)
+
+append_nil : {X : Type 0} (xs : List X) → xs ++ [] ≡ xs
+append_nil [] = refl
+append_nil (x ∷ xs) = ap (λ r. x ∷ r) (append_nil xs)
+
+pub joined_insert : (standings : List Standing) (i : ℕ) (z : Standing) → joined standings i (z ∷ []) i ≡ insert standings i z
+joined_insert standings i z = append_assoc (take i standings) (z ∷ []) (drop i standings)
+
+pub joined_remove : (standings : List Standing) (i : ℕ) → joined standings i [] (i + 1) ≡ remove standings i
+joined_remove standings i = ap (λ xs. xs ++ drop (i + 1) standings) (append_nil (take i standings)) ∙ ap (λ j. take i standings ++ drop j standings) (add-one i)
+
+pub joined_set : (standings : List Standing) (i : ℕ) (z : Standing) → i < length standings → joined standings i (z ∷ []) (i + 1) ≡ set standings i z
+joined_set standings i z within =
+    append_assoc (take i standings) (z ∷ []) (drop (i + 1) standings) ∙ ap (λ j. take i standings ++ z ∷ drop j standings) (add-one i) ∙ sym (set_split standings i z within)
+
+module _ (settings : Settings) (zones : List Zone) (keys : List ℕ) (standings : List Standing) (held : IsHeld settings zones keys standings) (rising : IsRisingFrom 0 keys) where
+  shapes_length : length (shapes_in standings) ≡ length keys
+  shapes_length = length_shapes standings ∙ held.lengths
+
+  -- one zone more
+  pub held_added : (key : ℕ) (shape : List (List Point)) (z : Standing) (i : ℕ) → z.shape ≡ shape → z.level ≡ level_of shape settings.cells → IsFree key keys i
+      → IsHeld settings (with_zone (record { key = key; shape = shape }) zones) (insert keys i key) (joined standings i (z ∷ []) i)
+  held_added key shape z i e level free =
+      let shapes : shapes_in (joined standings i (z ∷ []) i) ≡ insert (shapes_in standings) i shape =
+      shapes_joined standings i i (z ∷ []) ∙ append_assoc (take i (shapes_in standings)) (z.shape ∷ []) (drop i (shapes_in standings)) ∙ ap (insert (shapes_in standings) i) e in
+      record {
+        zones_are =
+            ap (with_zone (record { key = key; shape = shape })) held.zones_are
+            ∙ sym (put_is key shape keys (shapes_in standings) i shapes_length free.0 free.1 free.2)
+            ∙ ap (zones_with (insert keys i key)) (sym shapes);
+        lengths =
+            omega (arith, ap (λ xs. length xs) (joined_insert standings i z), length-insert standings i z (omega (arith, held.lengths, free.0)), length-insert keys i key free.0, held.lengths);
+        levels = levels_joined settings.cells standings i i (z ∷ []) held.levels (level_one settings.cells z (level ∙ ap (λ r. level_of r settings.cells) (sym e)));
+      }
+
+  -- one zone less
+  pub held_dropped : (key i : ℕ) → IsAt key keys i → IsHeld settings (without_key key zones) (remove keys i) (joined standings i [] (i + 1))
+  held_dropped key i at =
+      let shapes : shapes_in (joined standings i [] (i + 1)) ≡ remove (shapes_in standings) i =
+      shapes_joined standings i (i + 1) [] ∙ ap (λ xs. xs ++ drop (i + 1) (shapes_in standings)) (append_nil (take i (shapes_in standings)))
+      ∙ ap (λ j. take i (shapes_in standings) ++ drop j (shapes_in standings)) (add-one i) in
+      record {
+        zones_are =
+            ap (without_key key) held.zones_are
+            ∙ sym (remove_is key 0 keys (shapes_in standings) i rising shapes_length at.0 at.1)
+            ∙ ap (zones_with (remove keys i)) (sym shapes);
+        lengths =
+            omega (arith, ap (λ xs. length xs) (joined_remove standings i), length-remove standings i (omega (arith, held.lengths, at.0)), length-remove keys i at.0, held.lengths);
+        levels = levels_joined settings.cells standings i (i + 1) [] held.levels (level_none settings.cells);
+      }
+
+  -- another shape for one zone
+  pub held_reshaped : (key : ℕ) (shape : List (List Point)) (z : Standing) (i : ℕ) → z.shape ≡ shape → z.level ≡ level_of shape settings.cells → IsAt key keys i
+      → IsHeld settings (reshaped key shape zones) keys (joined standings i (z ∷ []) (i + 1))
+  held_reshaped key shape z i e level at =
+      let same : joined standings i (z ∷ []) (i + 1) ≡ set standings i z = joined_set standings i z (omega (arith, held.lengths, at.0)) in
+      let shapes : shapes_in (joined standings i (z ∷ []) (i + 1)) ≡ set (shapes_in standings) i shape =
+      shapes_joined standings i (i + 1) (z ∷ []) ∙ append_assoc (take i (shapes_in standings)) (z.shape ∷ []) (drop (i + 1) (shapes_in standings))
+      ∙ ap (λ j. take i (shapes_in standings) ++ z.shape ∷ drop j (shapes_in standings)) (add-one i)
+      ∙ sym (set_split (shapes_in standings) i z.shape (omega (arith, shapes_length, at.0)))
+      ∙ ap (set (shapes_in standings) i) e in
+      record {
+        zones_are =
+            ap (reshaped key shape) held.zones_are
+            ∙ sym (reshape_is key 0 shape keys (shapes_in standings) i rising shapes_length at.0 at.1)
+            ∙ ap (zones_with keys) (sym shapes);
+        lengths = omega (arith, ap (λ xs. length xs) same, length-set standings i z, held.lengths);
+        levels = levels_joined settings.cells standings i (i + 1) (z ∷ []) held.levels (level_one settings.cells z (level ∙ ap (λ r. level_of r settings.cells) (sym e)));
+      }
+
+-- the verdict of the standings is that of the zones
+pub held_accepted : (settings : Settings) (zones : List Zone) (keys : List ℕ) (standings : List Standing) (rows : ℕ) → IsHeld settings zones keys standings
+    → rows ≡ standing_rows [] standings → room_of settings.rows (standing_most standings) rows ≡ None → room_verdict settings zones ≡ None
+unfolding room_verdict
+held_accepted settings zones keys standings rows h e v =
+    ap (room_of settings.rows (most_references settings zones)) (sym (e ∙ held_rows settings zones keys standings [] h))
+    ∙ ap (λ most. room_of settings.rows most rows) (sym (held_most settings zones keys standings h)) ∙ v
+
+pub held_refused : (settings : Settings) (zones : List Zone) (keys : List ℕ) (standings : List Standing) (why : Verdict) → IsHeld settings zones keys standings
+    → room_of settings.rows (standing_most standings) (standing_rows [] standings) ≡ Some why → room_verdict settings zones ≡ Some why
+unfolding room_verdict
+held_refused settings zones keys standings why h v =
+    ap (room_of settings.rows (most_references settings zones)) (sym (held_rows settings zones keys standings [] h))
+    ∙ ap (λ most. room_of settings.rows most (standing_rows [] standings)) (sym (held_most settings zones keys standings h)) ∙ v
+
+within_limit : (limit most rows : ℕ) → room_of limit most rows ≡ None → rows ≤ limit
+within_limit limit most rows v = by (nat_lt reference_limit most) (nat_lt limit rows) refl v
+  where
+    by : (a b : Bool) → nat_lt limit rows ≡ b
+        → ◌≡◌ {A = Option Verdict} (if a then Some (verdict.Refs most) else if b then Some (verdict.Rows rows limit) else None) None → rows ≤ limit
+    by true b e v = absurd (cc)
+    by false true e v = absurd (cc)
+    by false false e v = grind (arith, nat_tests)
+
+-- a change of the zones of a state with no trained cell
+pub prepared : (settings : Settings) (state : State) (entry : Entry) (size most : ℕ) → [] ≡ state.trained
+    → verdict_of settings state entry ≡ first_cause (key_verdict state.zones entry) (room_verdict settings (changed state.zones entry))
+    → trained_after settings state entry ≡ fit settings (changed state.zones entry) state.trained
+    → key_verdict state.zones entry ≡ None → room_verdict settings (changed state.zones entry) ≡ None → room_of settings.rows most size ≡ None
+    → size ≡ rows_with settings (changed state.zones entry) []
+    → IsFor settings state (record { entry = entry; size = size; plain = size; cells = settings.cells })
+prepared settings state entry size most none v t key room fits is =
+    let untrained : [] ≡ trained_after settings state entry = fit_none settings (changed state.zones entry) state.trained none ∙ sym t in
+    let sized : size ≡ rows_with settings (changed state.zones entry) (trained_after settings state entry) = is ∙ ap (rows_with settings (changed state.zones entry)) untrained in
+    record {
+      accepted = v ∙ ap (λ x. first_cause x (room_verdict settings (changed state.zones entry))) key ∙ room;
+      sized = sized;
+      plainly = is;
+      budget = refl;
+      within = record { rows = omega (arith, sized, within_limit settings.rows most size fits); trained = omega (arith, ap (λ xs. length xs) untrained) };
+    }
+
+-- an update that is turned away by its standings
+pub turned : (settings : Settings) (zones : List Zone) (keys : List ℕ) (standings here : List Standing) (key_cause : Option Verdict) (why : Verdict) → IsHeld settings zones keys standings
+    → here ≡ standings → key_cause ≡ None
+    → (why ≡ verdict.NoMemory) ⊎ (room_of settings.rows (standing_most here) (standing_rows [] here) ≡ Some why)
+    → (why ≡ verdict.NoMemory) ⊎ (first_cause key_cause (room_verdict settings zones) ≡ Some why)
+turned settings zones keys standings here key_cause why h e none (inl unfed) = inl unfed
+turned settings zones keys standings here key_cause why h e none (inr v) =
+    inr (
+    ap (λ x. first_cause x (room_verdict settings zones)) none
+    ∙ held_refused settings zones keys standings why h (ap (λ ss. room_of settings.rows (standing_most ss) (standing_rows [] ss)) (sym e) ∙ v)
+    )
+
+-- a change of the zones that was prepared on a state with no trained cell, and what is kept of the state after it
+module _ (settings : Settings) (state : State) (change : Prepared) (keys : List ℕ) (standings : List Standing) (trained : List Address)
+    (h : IsHeld settings (changed state.zones change.entry) keys standings) (same : state.trained ≡ trained) (none : trained ≡ [])
+    (t : trained_after settings state change.entry ≡ fit settings (changed state.zones change.entry) state.trained) where
+  still : trained_after settings state change.entry ≡ trained
+  still = t ∙ sym (fit_none settings (changed state.zones change.entry) state.trained (sym (same ∙ none))) ∙ sym none
+
+  pub sound_after : IsFor settings state change → IsRisingFrom 0 keys → length keys ≤ 4294967295 → IsSound settings keys standings trained change.size change.plain
+  sound_after p rising few = record {
+    lengths = h.lengths;
+    rising = rising;
+    few = few;
+    levels = h.levels;
+    sized = p.sized ∙ ap (rows_with settings (changed state.zones change.entry)) still ∙ ap (λ zs. rows_with settings zs trained) h.zones_are;
+    plainly = p.plainly ∙ ap (λ zs. rows_with settings zs []) h.zones_are;
+    fits = omega (arith, p.sized, p.within.rows);
+    untrained = none;
+  }
+
+  pub state_after : ◌≡◌ {A = State} (record { zones = zones_with keys (shapes_in standings); trained = trained }) (after settings state change.entry)
+  state_after = same_state _ _ _ _ (sym h.zones_are) (sym still)
+
+-- the shape at a place
+pub shape_at_place : (standings : List Standing) (i : ℕ) (z : Standing) → z ≡ get_or standings i z → i < length standings → z.shape ≡ slice_index_or (shapes_in standings) i []
+shape_at_place standings i z e within = ap shape_of e ∙ sym (get_or-map shape_of standings i z [] within)
+
+-- what is kept of no zones
+pub sound_nothing : (settings : Settings) → 1 ≤ settings.rows → IsSound settings [] [] [] 1 1
+sound_nothing settings least = record {
+  lengths = refl;
+  rising = tt;
+  few = omega arith;
+  levels = All-nil (λ (s : Standing). s.level ≡ level_of s.shape settings.cells);
+  sized = sym (rows_of_none settings);
+  plainly = sym (rows_of_none settings);
+  fits = least;
+  untrained = refl;
+}

@@ -1,0 +1,35 @@
+use Rattle.std.proofs.Common.{rules}
+use Rattle.std.specs.Prelude.{FitsSigned}
+use Rattle.std.specs.Int.{w32}
+use Rattle.std.proofs.lemmas.Int.{to_z-of_z}
+use Rattle.act_super.proofs.frame.with_point.Goals as goal
+
+pub returns-clause-wider : goal.returns-clause-wider
+returns-clause-wider c =
+    let lx : FitsSigned w32 c.args.frame.lo.x = search rules in
+    let ly : FitsSigned w32 c.args.frame.lo.y = search rules in
+    let hx : FitsSigned w32 c.args.frame.hi.x = search rules in
+    let hy : FitsSigned w32 c.args.frame.hi.y = search rules in
+    let mx : FitsSigned w32 c.min.result = search rules in
+    let my : FitsSigned w32 c.min-2.result = search rules in
+    let nx : FitsSigned w32 c.max.result = search rules in
+    let ny : FitsSigned w32 c.max-2.result = search rules in
+    let west = simp to_z-of_z at c.min.ensures.self_bound in
+    let south = simp to_z-of_z at c.min-2.ensures.self_bound in
+    let east = simp to_z-of_z at c.max.ensures.self_bound in
+    let north = simp to_z-of_z at c.max-2.ensures.self_bound in
+    simp to_z-of_z (record { west = west; east = east; south = south; north = north })
+
+pub returns-clause-holds : goal.returns-clause-holds
+returns-clause-holds c =
+    let px : FitsSigned w32 c.args.p.x = search rules in
+    let py : FitsSigned w32 c.args.p.y = search rules in
+    let mx : FitsSigned w32 c.min.result = search rules in
+    let my : FitsSigned w32 c.min-2.result = search rules in
+    let nx : FitsSigned w32 c.max.result = search rules in
+    let ny : FitsSigned w32 c.max-2.result = search rules in
+    let west = simp to_z-of_z at c.min.ensures.other_bound in
+    let south = simp to_z-of_z at c.min-2.ensures.other_bound in
+    let east = simp to_z-of_z at c.max.ensures.other_bound in
+    let north = simp to_z-of_z at c.max-2.ensures.other_bound in
+    simp to_z-of_z (record { west = west; east = east; south = south; north = north })

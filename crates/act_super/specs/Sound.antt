@@ -1,0 +1,39 @@
+-- What is kept of a state, and of a change that was prepared on it.
+use Rattle.std.specs.Prelude.{◌≡◌, ◌≤◌, ◌++◌, ℕ, List, [], ◌∷◌, Option, Some, None, length, take, drop}
+use Rattle.std.specs.Borrow.{Bor}
+use Rattle.act_grid.specs.declared.Settings.{Settings}
+use Rattle.act_grid.specs.Cell.{Address}
+use Rattle.act_cover.specs.Level.{level_of}
+use Rattle.act_super.specs.declared.next.Change.{Change}
+use Rattle.act_super.specs.declared.next.Change.TheVariants as change
+use Rattle.act_super.specs.declared.standing.Standing.{Standing}
+use Rattle.act_super.specs.Places.{IsRising, zones_with}
+use Rattle.act_super.specs.Sizes.{rows_with}
+use Rattle.act_super.specs.Standings.{AreLevelled, shapes_in}
+
+-- the keys ascend, a standing with its Level stands beside each, and the two numbers are the Size of the state and what
+-- it is with no trained cell
+pub record IsSound (settings : Settings) (keys : List ℕ) (standings : List Standing) (trained : List Address) (size plain : ℕ) : Type 0 where
+  pub lengths : length standings ≡ length keys
+  pub rising : IsRising keys
+  pub few : length keys ≤ 4294967295
+  pub levels : AreLevelled settings.cells standings
+  pub sized : size ≡ rows_with settings (zones_with keys (shapes_in standings)) trained
+  pub plainly : plain ≡ rows_with settings (zones_with keys (shapes_in standings)) []
+  pub fits : size ≤ settings.rows
+  pub untrained : trained ≡ []
+
+-- the standing that a change brings has its Level for this budget of cells
+abbrev pub IsLevelled : ℕ → Change → Type 0
+IsLevelled cells (change.Add key s) = s.level ≡ level_of s.shape cells
+IsLevelled cells (change.DropZone key) = Unit {0}
+IsLevelled cells (change.Replace key s) = s.level ≡ level_of s.shape cells
+
+-- the standing behind a reference, where there is one
+abbrev pub lone : Option (Bor Standing) → List Standing
+lone None = []
+lone (Some r) = r.now ∷ []
+
+-- the standings before a place, perhaps one more, and those from a place on
+abbrev pub spliced : List Standing → ℕ → Option (Bor Standing) → ℕ → List Standing
+spliced standings from new to = take from standings ++ lone new ++ drop to standings

@@ -1,0 +1,65 @@
+//! Boxes around shapes.
+
+ghost use Rattle.std.specs.Prelude.{◌≡◌, All};
+ghost use Rattle.act_grid.specs.Hull.{IsIn};
+ghost use Rattle.act_super.specs.Frames.{IsFrame, IsWider, is_apart};
+
+use act_geom::Shape;
+use act_grid::{Hull, Point};
+
+/// A box around the vertices of the shape. It looks at each vertex once.
+pub(crate) fn frame_of(shape: &Shape) -> Hull
+    ensures { IsFrame result shape.now }
+{
+    let lo = Point {
+        x: i32::MAX,
+        y: i32::MAX,
+    };
+    let hi = Point {
+        x: i32::MIN,
+        y: i32::MIN,
+    };
+    let mut frame = Hull { lo, hi };
+    for k in 0..shape.rings() {
+        frame = with_ring(frame, shape.ring(k));
+    }
+    frame
+}
+
+// A box around a box and the vertices of a ring.
+fn with_ring(frame: Hull, ring: &[Point]) -> Hull
+    ensures wider { IsWider frame result }
+    ensures holds { All (IsIn result) ring.now }
+{
+    let mut wide = frame;
+    for p in ring {
+        wide = with_point(wide, *p);
+    }
+    wide
+}
+
+// The least box around a box and a point.
+fn with_point(frame: Hull, p: Point) -> Hull
+    ensures wider { IsWider frame result }
+    ensures holds { IsIn result p }
+{
+    let lo = Point {
+        x: frame.lo.x.min(p.x),
+        y: frame.lo.y.min(p.y),
+    };
+    let hi = Point {
+        x: frame.hi.x.max(p.x),
+        y: frame.hi.y.max(p.y),
+    };
+    Hull { lo, hi }
+}
+
+/// Whether the boxes share no point.
+#[inline]
+pub(crate) fn is_apart(frame: Hull, hull: Hull) -> bool
+    ensures { result ≡ is_apart frame hull }
+{
+    let beside = (frame.hi.x < hull.lo.x) | (hull.hi.x < frame.lo.x);
+    let above = (frame.hi.y < hull.lo.y) | (hull.hi.y < frame.lo.y);
+    beside | above
+}

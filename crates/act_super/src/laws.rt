@@ -1,0 +1,22 @@
+//! Laws of leaves and histories, each the contract of a function that does nothing.
+
+ghost use Rattle.act_super.specs.Histories.{StateHasZones, TrainingChangesNoZone};
+ghost use Rattle.act_super.specs.Laws.{LeafHoldsPoint, OneLeafHoldsPoint, ReferencesAnswer};
+
+/// For each grid point of a cell, whichever cells are split, the cell's true hits and those of its candidates that hold
+/// the point are exactly the zones that hold it.
+pub fn references_answer()
+    ensures { ReferencesAnswer }
+{}
+
+/// The leaf of a point is a leaf that holds the point, and no other leaf holds it.
+pub fn leaf_holds_point()
+    ensures holds { LeafHoldsPoint }
+    ensures one { OneLeafHoldsPoint }
+{}
+
+/// The zones after a history are those after its updates alone: training changes no zone.
+pub fn training_changes_no_zone()
+    ensures state { StateHasZones }
+    ensures updates { TrainingChangesNoZone }
+{}

@@ -1,0 +1,63 @@
+//! Zones that stand, with what is kept beside their shapes.
+
+ghost use Rattle.std.specs.Prelude.{◌≡◌, ◌≤◌};
+ghost use Rattle.act_grid.specs.Cell.{hull_of};
+ghost use Rattle.act_geom.specs.Inside.{is_inside};
+ghost use Rattle.act_cover.specs.Covering.{class_at};
+ghost use Rattle.act_cover.specs.Level.{level_of};
+ghost use Rattle.act_super.specs.Frames.{IsFrame};
+
+use crate::frame::{frame_of, is_apart};
+use act_cover::cover_level;
+use act_geom::{Class, Shape, class_of, inside};
+use act_grid::{Cell, Hull, Point};
+
+/// A zone's shape, with the Level of its covering and a box around its vertices.
+#[derive(Drop)]
+pub(crate) struct Standing {
+    pub shape: Shape,
+    pub level: u32,
+    pub frame: Hull,
+    ghost framed: { IsFrame frame shape },
+}
+
+impl Standing {
+    /// The shape with what is kept beside it, for a budget of so many cells. It costs what `cover_level` does.
+    pub fn new(shape: Shape, cells: u32) -> Standing
+        requires least { 1 ≤ cells }
+        requires most { cells ≤ 1024 }
+        ensures shape { result.shape ≡ shape }
+        ensures level { result.level ≡ level_of shape cells }
+    {
+        let level = cover_level(&shape, cells);
+        let frame = frame_of(&shape);
+        Standing {
+            shape,
+            level,
+            frame,
+        }
+    }
+
+    /// How the shape lies on the cell, whose hull is given. A cell apart from the box takes constant time, and any
+    /// other one a look at each edge at most twice.
+    pub fn class_on(&self, cell: Cell, hull: Hull) -> Class
+        requires { hull ≡ hull_of cell }
+        ensures { result ≡ class_at self.now.shape cell }
+    {
+        if is_apart(self.frame, hull) {
+            return Class::Outside;
+        }
+        class_of(&self.shape, cell)
+    }
+
+    /// Whether the point is inside the shape. A point outside of the box takes constant time.
+    #[inline]
+    pub fn contains(&self, p: Point) -> bool
+        ensures { result ≡ is_inside self.now.shape p }
+    {
+        if is_apart(self.frame, Hull { lo: p, hi: p }) {
+            return false;
+        }
+        inside(&self.shape, p)
+    }
+}
