@@ -10,6 +10,8 @@ pub mod Frames
 pub mod Standings
 pub mod States
 pub mod Sound
+pub mod Nodes
+pub mod Stands
 pub mod Changes
 pub mod Lending
 pub mod Histories
