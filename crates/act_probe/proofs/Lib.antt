@@ -1,0 +1,2 @@
+pub mod ChainFacts
+pub mod RefFacts

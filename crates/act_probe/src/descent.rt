@@ -1,0 +1,1 @@
+//! The way down to the leaf that holds a point.

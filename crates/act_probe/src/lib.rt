@@ -1,0 +1,22 @@
+//! Which zones hold a point, read from the words of an image alone.
+//!
+//! The way down goes from the root node to the entry of the leaf that holds the point, one word a node.
+//! The entry gives the leaf's references. A true hit needs no test. Any other reference is a candidate,
+//! whose polygon is walked word by word along its chain.
+//!
+//! The layer above uses one contract: over words that stand for a state, `probe` gives exactly the
+//! ascending keys of the zones of the layers that the point is inside, within `reads_of` words.
+//!
+//! ```text
+//! let reads = probe(&mut words, root, p, Layers::all(), &mut keys, &mut steps);
+//! ```
+#![tactic(auto)]
+
+mod chain;
+mod descent;
+mod keys;
+mod refs;
+mod words;
+
+pub use keys::Keys;
+pub use words::Words;
