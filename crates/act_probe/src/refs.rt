@@ -1,14 +1,19 @@
 //! References of leaves.
 
-ghost use Rattle.std.specs.Prelude.{◌≡◌, ◌+◌, ◌<◌, ◌≤◌, ◌^◌, List, length};
+ghost use Rattle.std.specs.Prelude.{◌≡◌, ◌+◌, ◌<◌, ◌≤◌, ◌^◌, ◌++◌, ◌∷◌, [], Bool, List, length};
+ghost use Rattle.std.specs.Option.{option_to_list};
+ghost use Rattle.act_base.specs.Counting.{times};
+ghost use Rattle.act_entry.specs.declared.reference.Ref.{Ref};
+ghost use Rattle.act_super.specs.Packs.{list_words};
+ghost use Rattle.act_super.specs.Stands.{HasWords, words_of};
 ghost use Rattle.act_super.specs.declared.entry.Zone.{Zone};
-ghost use Rattle.act_probe.specs.Chains.{ChainAt, ref_reads, with_found};
+ghost use Rattle.act_probe.specs.Chains.{ChainAt, RefsOf, found_keys, found_reads, ref_reads, with_found};
 
 use crate::chain::test;
 use crate::keys::Keys;
 use crate::words::Words;
 use act_base::Steps;
-use act_entry::{Ref, chain_key};
+use act_entry::{Ref, chain_key, unpack};
 use act_grid::{Layers, Point};
 use std::sync::ledger::Ledger;
 
@@ -45,4 +50,34 @@ pub(crate) fn take_ref<W: Words, L: Ledger>(
     }
     out.push(key);
     1 + tested.reads
+}
+
+/// Takes one reference or two.
+pub(crate) fn take_pair<W: Words, L: Ledger>(
+    words: &mut W,
+    a: Ref,
+    b: Option<Ref>,
+    p: Point,
+    layers: &Layers,
+    out: &mut Keys,
+    steps: &mut Steps<L>,
+) -> u64
+    requires refs { (hit : Zone → Bool) × (zones : List Zone) × RefsOf (W.image words.old) hit zones (a ∷ option_to_list b) }
+    requires room { length out.old ≤ 508 }
+    ensures same { words.new ≡ words.old }
+    ensures keys { (hit : Zone → Bool) (zones : List Zone) → RefsOf (W.image words.old) hit zones (a ∷ option_to_list b)
+        → out.new ≡ out.old ++ found_keys layers.now p hit zones }
+    ensures few { (hit : Zone → Bool) (zones : List Zone) → RefsOf (W.image words.old) hit zones (a ∷ option_to_list b) → result ≤ found_reads layers.now hit zones }
+    ensures ticks { steps.new ≡ steps.old + result }
+    ensures room { length out.new ≤ length out.old + 2 }
+    ensures bound { result < 2 ^ 21 }
+{
+    let first = take_ref(words, a, p, layers, out, steps);
+    match b {
+        Some(b) => {
+            let second = take_ref(words, b, p, layers, out, steps);
+            first + second
+        }
+        None => first,
+    }
 }
