@@ -14,6 +14,7 @@ use Rattle.act_geom.proofs.BodyFacts.{length-body}
 use Rattle.act_geom.proofs.WalkFacts.{not_at_end}
 use Rattle.act_base.specs.Counting.{times}
 use Rattle.act_base.specs.Sight.{Sight}
+use Rattle.act_entry.specs.References.{IsRow}
 use Rattle.act_super.specs.declared.entry.Zone.{Zone}
 use Rattle.act_probe.specs.Chains.{ChainAt, IsAt}
 use Rattle.act_probe.specs.Reads.{body_reads}
@@ -49,6 +50,13 @@ pub first_key : {x : Sight} {zone : Zone} {first : ℕ} (c : ChainAt x zone firs
 first_key {x} c word is =
     let told = is ∙ ap (λ r. x.word r 0) (sym c.first) ∙ c.chain.first in
     omega (arith, told, small_row c 1)
+
+-- the first row of a chain is one that a reference may name
+pub row_fits : {x : Sight} {zone : Zone} {row : ℕ} → ChainAt x zone row → IsRow row
+row_fits c =
+    let some : 0 < length c.rows = omega (arith, c.chain.size) in
+    let low : IsRow (slice_index c.rows 0) = ((c.low 0 some).0, omega (arith, (c.low 0 some).1)) in
+    rw c.first at low
 
 module _ (x : Sight) (zone : Zone) (first : ℕ) (c : ChainAt x zone first) where
   -- the words of the body have places in the rows

@@ -1,2 +1,3 @@
 pub mod ChainFacts
 pub mod RefFacts
+pub mod ListFacts

@@ -1,5 +1,5 @@
 -- The chain of a zone in an image.
-use Rattle.std.specs.Prelude.{◌≡◌, ℕ, ◌<◌, ◌≤◌, ◌+◌, ◌*◌, ◌^◌, ◌++◌, ℕ, ◌∷◌, [], ◌&&◌, ◌||◌, Bool, cond, not, List, All, length, slice_index}
+use Rattle.std.specs.Prelude.{◌≡◌, ℕ, ◌<◌, ◌≤◌, ◌+◌, ◌*◌, ◌^◌, ◌++◌, ℕ, ◌∷◌, [], ◌&&◌, ◌||◌, Bool, cond, not, List, All, None, Some, length, slice_index}
 use Rattle.act_grid.specs.declared.layers.Layers.{Layers}
 use Rattle.act_grid.specs.declared.Point.{Point}
 use Rattle.act_grid.specs.Layers.{has_layer, layer_of}
@@ -8,6 +8,7 @@ use Rattle.act_geom.specs.Rings.{vertices_of}
 use Rattle.act_base.specs.Counting.{times}
 use Rattle.act_base.specs.Sight.{Sight}
 use Rattle.act_entry.specs.declared.reference.Ref.{Ref}
+use Rattle.act_entry.specs.Lists.{pair_word}
 use Rattle.act_super.specs.declared.entry.Zone.{Zone}
 use Rattle.act_super.specs.Stands.{HasChain}
 use Rattle.act_probe.specs.Reads.{body_reads}
@@ -58,3 +59,9 @@ found_reads layers hit (zone ∷ zones) = ref_reads layers (hit zone) zone + fou
 -- the keys so far, with that of the zone where it is found
 abbrev pub with_found : Layers → Point → Bool → Zone → List ℕ → List ℕ
 with_found layers p hit zone keys = cond (is_found layers p hit zone) (keys ++ zone.key ∷ []) keys
+
+-- the word has the first two of these references, or the last one
+abbrev pub PairAt : List Ref → ℕ → Type 0
+PairAt [] word = ⊥
+PairAt (a ∷ []) word = word ≡ pair_word a None
+PairAt (a ∷ b ∷ refs) word = word ≡ pair_word a (Some b)

@@ -15,6 +15,7 @@
 mod chain;
 mod descent;
 mod keys;
+mod list;
 mod refs;
 mod words;
 
