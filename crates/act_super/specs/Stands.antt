@@ -74,11 +74,10 @@ pub record HasWords (x : Sight) (row place : ℕ) (words : List ℕ) : Type 0 wh
   pub within : place + length words ≤ 256
   pub each : (i : ℕ) → i < length words → x.word row (place + i) ≡ slice_index words i
 
--- the list of a leaf stands where the lists of its node place it, if it has one
-abbrev pub HasList : Sight → Layout → Settings → State → Address → Address → Type 0
-HasList x layout settings state c leaf =
-    2 < count_at state leaf
-    → HasWords x (list_row layout settings state c leaf) (start_in settings state c leaf).place (words_of (refs_in layout (refs_of state.zones leaf)))
+-- the list of a leaf stands where the lists of its node place it
+pub record HasList (x : Sight) (layout : Layout) (settings : Settings) (state : State) (c leaf : Address) : Type 0 where
+  pub row : (start_in settings state c leaf).row < length (layout.lists c)
+  pub words : HasWords x (list_row layout settings state c leaf) (start_in settings state c leaf).place (words_of (refs_in layout (refs_of state.zones leaf)))
 
 -- a place behind the last list of a list row
 abbrev pub IsRest : Settings → State → Address → ℕ → ℕ → Type 0
@@ -99,19 +98,20 @@ abbrev pub rows_in : Layout → Settings → State → List ℕ
 rows_in layout settings state =
     flat_map (λ c. layout.node c ∷ layout.lists c) (nodes_of settings state) ++ flat_map (λ zone. layout.chain zone.key) state.zones
 
--- a state that an image may stand for: no leaf has too many references, and each shape has rings of three vertices at
--- least, and not too many vertices
+-- a state that an image may stand for: no leaf has too many references, each shape has rings of three vertices at least
+-- and not too many vertices, and keys have 32 bits
 pub record IsServed (settings : Settings) (state : State) : Type 0 where
   pub few : (p : Point) → count_at state (leaf_at (ground_of settings state) state.zones p) ≤ reference_limit
   pub full : All (λ zone. All (λ ring. 3 ≤ length ring) zone.shape) state.zones
   pub small : All (λ zone. vertices_of zone.shape ≤ 262144) state.zones
+  pub keys : All (λ zone. zone.key < 2 ^ 32) state.zones
 
 -- the rows stand for the state from this root, with these uses
 pub record StandsBy (settings : Settings) (x : Sight) (root : ℕ) (state : State) (layout : Layout) : Type 0 where
   pub top : layout.node root_cell ≡ root
   pub entries : (c : Address) (i : ℕ) → IsNode settings state c → i < 256 → x.word (layout.node c) i ≡ entry_word (entry_at layout settings state c i)
   pub lists : (c : Address) (i : ℕ) → IsNode settings state c → i < 256 → is_parted settings state (entry_cell c i) ≡ false
-      → HasList x layout settings state c (first_leaf settings state (entry_cell c i))
+      → 2 < count_at state (first_leaf settings state (entry_cell c i)) → HasList x layout settings state c (first_leaf settings state (entry_cell c i))
   pub list_rows : (c : Address) → IsNode settings state c → length (layout.lists c) ≡ list_rows settings state c
   pub rest : (c : Address) (i place : ℕ) → IsNode settings state c → i < length (layout.lists c) → place < 256 → IsRest settings state c i place
       → x.word (slice_index (layout.lists c) i) place ≡ 0
