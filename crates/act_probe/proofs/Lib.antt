@@ -1,3 +1,4 @@
 pub mod ChainFacts
 pub mod RefFacts
 pub mod ListFacts
+pub mod LeafFacts
