@@ -1,11 +1,11 @@
 -- The way down to a leaf.
-use Rattle.std.proofs.Common.{◌≡◌, ℕ, zero, suc, ◌+◌, ◌-◌, ◌*◌, ◌/◌, ◌%◌, ◌^◌, ◌<◌, ◌≤◌, ◌⊎◌, inl, inr, Bool, true, false, cond, int_lt, ℤ, pos, ◌≤ℤ◌, ◌<ℤ◌, ◌+ℤ◌, ◌-ℤ◌, ◌==◌, refl, sym, ap, ◌∙◌, subst, arith, List, pow-suc}
+use Rattle.std.proofs.Common.{◌≡◌, ℕ, zero, suc, ◌+◌, ◌-◌, ◌*◌, ◌/◌, ◌%◌, ◌^◌, ◌<◌, ◌≤◌, Bool, true, false, cond, int_lt, ℤ, pos, ◌≤ℤ◌, ◌<ℤ◌, ◌+ℤ◌, ◌-ℤ◌, ◌==◌, refl, sym, ap, ◌∙◌, subst, arith, List, pow-suc}
 use Rattle.std.proofs.lemmas.Int.{ints}
 use Rattle.std.proofs.lemmas.Nat.{pow_pos}
 use Rattle.act_grid.specs.declared.Point.{Point}
 use Rattle.act_grid.specs.Hull.{IsIn}
-use Rattle.act_grid.specs.Cell.{Address, IsCell, IsPart, child_of, column, hull_of, row, side_of}
-use Rattle.act_grid.proofs.CellOrder.{some_child, part_from_point, part_within}
+use Rattle.act_grid.specs.Cell.{Address, IsCell, child_of, column, hull_of, row, side_of}
+use Rattle.act_grid.proofs.CellOrder.{some_child, part_from_point}
 use Rattle.act_grid.proofs.SpacedFacts.{row_more}
 use Rattle.act_super.specs.Grounds.{Ground, leaf_within, quarter_of, some_asks}
 

@@ -2,3 +2,5 @@ pub mod ChainFacts
 pub mod RefFacts
 pub mod ListFacts
 pub mod LeafFacts
+pub mod WayFacts
+pub mod NodeFacts
