@@ -4,3 +4,5 @@ pub mod ListFacts
 pub mod LeafFacts
 pub mod WayFacts
 pub mod NodeFacts
+pub mod StandFacts
+pub mod FoundFacts
