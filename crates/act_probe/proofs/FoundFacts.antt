@@ -46,12 +46,12 @@ module _ (layers : Layers) (p : Point) (leaf : Address) (inside : IsIn (hull_of 
   found_is (zone ∷ zones) =
       on_first (is_on (class_at zone.shape leaf))
       ∙ picked (is_on (class_at zone.shape leaf)) (hit_on leaf zone) (is_inside zone.shape p) (has_layer layers (layer_of zone.key)) zone.key (found_keys layers p (hit_on leaf) (zones_on leaf zones))
-        (says leaf p zone inside).out (says leaf p zone inside).hit
+      (says leaf p zone inside).out (says leaf p zone inside).hit
       ∙ at_first (has_layer layers (layer_of zone.key) && is_inside zone.shape p) (found_is zones)
     where
       on_first : (b : Bool) → found_keys layers p (hit_on leaf) (cond b (zone ∷ zones_on leaf zones) (zones_on leaf zones))
           ≡ cond b (cond (is_found layers p (hit_on leaf zone) zone) (zone.key ∷ found_keys layers p (hit_on leaf) (zones_on leaf zones)) (found_keys layers p (hit_on leaf) (zones_on leaf zones)))
-            (found_keys layers p (hit_on leaf) (zones_on leaf zones))
+          (found_keys layers p (hit_on leaf) (zones_on leaf zones))
       on_first true = refl
       on_first false = refl
 
@@ -76,8 +76,8 @@ module _ (layers : Layers) (leaf : Address) where
   reads_are [] = omega arith
   reads_are (zone ∷ zones) =
       rw (found_first (is_on (class_at zone.shape leaf)), long_first (is_on (class_at zone.shape leaf))) (
-        words_more (class_at zone.shape leaf) (has_layer layers (layer_of zone.key)) (body_reads zone) (found_reads layers (hit_on leaf) (zones_on leaf zones))
-        (length (zones_on leaf zones)) (sum_by (test_reads layers leaf) zones) (sum_by (test_reads layers leaf) (zone ∷ zones)) (reads_are zones) (sum_by-cons (test_reads layers leaf) zone zones)
+      words_more (class_at zone.shape leaf) (has_layer layers (layer_of zone.key)) (body_reads zone) (found_reads layers (hit_on leaf) (zones_on leaf zones))
+      (length (zones_on leaf zones)) (sum_by (test_reads layers leaf) zones) (sum_by (test_reads layers leaf) (zone ∷ zones)) (reads_are zones) (sum_by-cons (test_reads layers leaf) zone zones)
       )
     where
       found_first : (b : Bool) → found_reads layers (hit_on leaf) (cond b (zone ∷ zones_on leaf zones) (zones_on leaf zones))

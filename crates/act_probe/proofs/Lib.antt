@@ -6,3 +6,4 @@ pub mod WayFacts
 pub mod NodeFacts
 pub mod StandFacts
 pub mod FoundFacts
+pub mod EntryFacts
