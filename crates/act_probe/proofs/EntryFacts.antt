@@ -25,10 +25,10 @@ use Rattle.act_probe.specs.Chains.{RefsOf}
 use Rattle.act_probe.specs.Reads.{nodes_above}
 use Rattle.act_probe.specs.Ways.{IsReached, IsTop, child_in, leaf_of}
 use Rattle.act_probe.proofs.ChainFacts.{row_fits}
-use Rattle.act_probe.proofs.LeafFacts.{no_deeper}
+use Rattle.act_probe.proofs.LeafFacts.{holds, no_deeper}
 use Rattle.act_probe.proofs.ListFacts.{pairs_enough}
 use Rattle.act_probe.proofs.StandFacts.{held_list, held_node, hit_on, refs_at, zones_on}
-use Rattle.act_probe.proofs.WayFacts.{below_node, entry_is, entry_of_id, entry_on, over, root_is, same_leaf}
+use Rattle.act_probe.proofs.WayFacts.{below_node, entry_is, entry_of_id, entry_on, in_root, over, root_is, same_leaf}
 
 -- the cell of level 30 that holds a point, by its id
 pub top_is : (p : Point) (c : Address) (id : ℕ) → c.level ≡ 30 → IsCell c → IsIn (hull_of c) p → id ≡ id_of c → IsTop id p
@@ -75,6 +75,12 @@ module _ (settings : Settings) (state : State) where
         step = omega (arith, node.step);
         split = inr parted;
       }
+
+-- the leaf of a point holds it
+leaf_in : (settings : Settings) (state : State) (p : Point) (id : ℕ) → IsTop id p → IsIn (hull_of (leaf_of settings state p)) p
+unfolding leaf_at
+leaf_in settings state p id top =
+    (holds (ground_of settings state) state.zones 28 root_cell p root_is (omega arith) (in_root (record { level = 30; path = id / 2 }) p top.cell top.inside)).inside
 
 module _ (settings : Settings) (x : Sight) (root : ℕ) (state : State) (served : IsServed settings state) (layout : Layout) (s : StandsBy settings x root state layout) where
   is_entry : (c : Address) (i : ℕ) → IsNode settings state c → i < 256 → IsEntry (entry_at layout settings state c i)
@@ -165,6 +171,7 @@ module _ (settings : Settings) (x : Sight) (root : ℕ) (state : State) (served 
               within = within;
               whole = whole;
               leaf = leaf_on;
+              inside = leaf_in settings state p id top;
               is = ap (leaf_entry layout settings state (over (id / 2) (4 * depth))) leaf_on;
               count = counted (leaf_of settings state p) (omega (arith, high, ap (λ (a : Address). a.level) leaf))
                   (λ some. below_node p (id / 2) top.cell top.inside settings state (4 * depth) (omega (arith, few)) (not_root some));

@@ -7,3 +7,4 @@ pub mod NodeFacts
 pub mod StandFacts
 pub mod FoundFacts
 pub mod EntryFacts
+pub mod TellFacts

@@ -8,9 +8,10 @@ use Rattle.act_geom.specs.Rings.{vertices_of}
 use Rattle.act_base.specs.Counting.{times}
 use Rattle.act_base.specs.Sight.{Sight}
 use Rattle.act_entry.specs.declared.reference.Ref.{Ref}
+use Rattle.act_entry.specs.declared.entry.Entry.{Entry}
 use Rattle.act_entry.specs.Lists.{pair_word}
 use Rattle.act_super.specs.declared.entry.Zone.{Zone}
-use Rattle.act_super.specs.Stands.{HasChain}
+use Rattle.act_super.specs.Stands.{HasChain, HasWords, entry_for, words_of}
 use Rattle.act_probe.specs.Reads.{body_reads}
 
 -- the zone's chain begins at the row, and all its rows are of the image
@@ -65,3 +66,13 @@ abbrev pub PairAt : List Ref → ℕ → Type 0
 PairAt [] word = ⊥
 PairAt (a ∷ []) word = word ≡ pair_word a None
 PairAt (a ∷ b ∷ refs) word = word ≡ pair_word a (Some b)
+
+-- the entry tells references to zones, and where it is that of a list, the list stands there
+pub record Tells (x : Sight) (hit : Zone → Bool) (zones : List Zone) (refs : List Ref) (found : Entry) : Type 0 where
+  pub are : RefsOf x hit zones refs
+  pub few : length refs ≤ 510
+  pub row : ℕ
+  pub place : ℕ
+  pub is : found ≡ entry_for refs row place
+  pub list : 2 < length refs → HasWords x row place (words_of refs)
+  pub held : 2 < length refs → 0 < times x.rows row

@@ -30,6 +30,7 @@ pub record IsReached (settings : Settings) (state : State) (layout : Layout) (p 
   pub within : place < 256
   pub whole : is_parted settings state (entry_cell node place) ≡ false
   pub leaf : first_leaf settings state (entry_cell node place) ≡ leaf_of settings state p
+  pub inside : IsIn (hull_of (leaf_of settings state p)) p
   pub is : found ≡ leaf_entry layout settings state node (leaf_of settings state p)
   pub count : nodes ≡ nodes_above (leaf_of settings state p)
 

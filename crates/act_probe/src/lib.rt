@@ -16,8 +16,10 @@ mod chain;
 mod descent;
 mod keys;
 mod list;
+mod point;
 mod refs;
 mod words;
 
 pub use keys::Keys;
+pub use point::probe;
 pub use words::Words;
