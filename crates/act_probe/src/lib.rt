@@ -18,6 +18,8 @@ mod keys;
 mod list;
 mod point;
 mod refs;
+#[cfg(test)]
+mod tests;
 mod words;
 
 pub use keys::Keys;

@@ -15,3 +15,4 @@ pub mod LeafFacts
 pub mod RefFacts
 pub mod HistoryFacts
 pub mod LawFacts
+pub mod BlankFacts

@@ -18,7 +18,7 @@ use Rattle.act_super.specs.declared.entry.Zone.{Zone}
 use Rattle.act_super.specs.declared.refs.ZoneRef.{ZoneRef}
 use Rattle.act_super.specs.Nodes.{IsNode, Start, count_at, entry_cell, first_leaf, ground_of, is_parted, list_rows, list_start, node_leaves, nodes_of}
 use Rattle.act_super.specs.Grounds.{leaf_at}
-use Rattle.act_super.specs.States.{reference_limit}
+use Rattle.act_super.specs.States.{nothing, reference_limit}
 use Rattle.act_super.specs.Packs.{empty_pack, list_words}
 use Rattle.act_super.specs.Sizes.{chain_rows, refs_of}
 
@@ -126,3 +126,13 @@ pub record Stands (settings : Settings) (x : Sight) (root : ℕ) (state : State)
   pub served : IsServed settings state
   pub layout : Layout
   pub by_rows : StandsBy settings x root state layout
+
+-- one row of zeros, as the image of no zones
+pub record IsBlank (x : Sight) : Type 0 where
+  pub rows : x.rows ≡ 1 ∷ []
+  pub firsts : x.firsts ≡ []
+  pub word : (place : ℕ) → place < 256 → x.word 1 place ≡ 0
+
+-- it stands for the state before the first entry
+abbrev pub BlankStands : Type 0
+BlankStands = (settings : Settings) (x : Sight) → IsBlank x → Stands settings x 1 nothing

@@ -1,6 +1,7 @@
 //! Laws of leaves and histories, each the contract of a function that does nothing.
 
 ghost use Rattle.act_super.specs.Histories.{StateHasZones, TrainingChangesNoZone};
+ghost use Rattle.act_super.specs.Stands.{BlankStands};
 ghost use Rattle.act_super.specs.Laws.{LeafHoldsPoint, OneLeafHoldsPoint, ReferencesAnswer};
 
 /// For each grid point of a cell, whichever cells are split, the cell's true hits and those of its candidates that hold
@@ -19,4 +20,9 @@ pub fn leaf_holds_point()
 pub fn training_changes_no_zone()
     ensures state { StateHasZones }
     ensures updates { TrainingChangesNoZone }
+{}
+
+/// One row of zeros is an image of no zones.
+pub fn blank_image_stands()
+    ensures { BlankStands }
 {}

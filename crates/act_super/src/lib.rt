@@ -35,7 +35,7 @@ mod verdict;
 mod whole;
 
 pub use entry::{Entry, State, Zone};
-pub use laws::{leaf_holds_point, references_answer, training_changes_no_zone};
+pub use laws::{blank_image_stands, leaf_holds_point, references_answer, training_changes_no_zone};
 pub use next::Next;
 pub use refs::{ZoneRef, ZoneRefs};
 pub use state::Super;

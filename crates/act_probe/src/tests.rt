@@ -1,0 +1,42 @@
+//! A point of an image without zones.
+
+ghost use Rattle.std.specs.Prelude.{◌≡◌, ℕ, ◌<◌, ◌∷◌, []};
+
+use crate::{Keys, Words, probe};
+use act_base::Steps;
+use act_grid::{Layers, Point};
+use std::marker::Brand;
+use std::sync::ledger::{Blank, Ledger};
+use std::test::Fail;
+
+/// The words of one row of zeros.
+#[derive(Drop)]
+struct Zeros;
+
+impl Words for Zeros {
+    ghost image = { λ _. record { rows = 1 ∷ []; firsts = []; word = λ row place. 0 } };
+
+    fn word<L: Ledger>(&mut self, _row: u32, _place: u8, steps: &mut Steps<L>) -> u64 {
+        steps.tick();
+        0
+    }
+}
+
+/// How many zones are found at a point, and how many words are read.
+fn found<L: Ledger>(blank: Blank, p: Point) -> (u32, u64)
+    requires name { blank.name ≡ L.name }
+    requires parts { (blank.parts ≡ L.parts) × (0 < L.parts) }
+{
+    let mut steps = Steps::<L>::new(blank);
+    let mut keys = Keys::new();
+    let reads = probe(&mut Zeros, 1, p, Layers::all(), &mut keys, &mut steps);
+    (keys.len(), reads)
+}
+
+#[test]
+fn no_zones(rt: HostRuntime) -> Result<(), Fail> {
+    let (keys, reads) = found::<Brand>(Blank::new(1), Point { x: 0, y: 0 });
+    assert_eq!(rt; keys, 0);
+    assert_eq!(rt; reads, 1);
+    Ok(())
+}
