@@ -14,6 +14,7 @@
 //! ```
 #![tactic(auto)]
 
+mod after;
 mod entry;
 mod frame;
 mod gather;

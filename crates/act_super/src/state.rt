@@ -23,11 +23,11 @@ const MOST_ZONES: usize = 0xFFFF_FFFF;
 /// The zones that stand, with the settings. Contracts see the state of the definitions.
 #[derive(Drop)]
 pub struct Super {
-    settings: Settings,
+    pub(crate) settings: Settings,
     // The keys in ascending order, and beside each its shape with what is kept of it.
-    keys: Vec<u32>,
-    standings: Vec<Standing>,
-    marks: Marks,
+    pub(crate) keys: Vec<u32>,
+    pub(crate) standings: Vec<Standing>,
+    pub(crate) marks: Marks,
     // The Size of the state, and what it is with no trained cell.
     size: u64,
     plain: u64,

@@ -135,6 +135,12 @@ fn leaves_have_references(rt: HostRuntime) -> Result<(), Fail> {
     );
     let far = state.leaf(Point { x: -1, y: -1 });
     assert!(rt; state.refs(alloc, far)?.as_slice().is_empty());
+    let Ok(next) = state.prepare_drop(alloc, 7) else {
+        return Err("turned away".into());
+    };
+    let root = next.leaf(&state, origin);
+    assert_eq!(rt; root, Cell::root());
+    assert!(rt; next.refs(alloc, &state, root)?.as_slice().is_empty());
     Ok(())
 }
 
