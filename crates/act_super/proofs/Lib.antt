@@ -16,3 +16,5 @@ pub mod RefFacts
 pub mod HistoryFacts
 pub mod LawFacts
 pub mod BlankFacts
+pub mod AddFacts
+pub mod ShiftFacts

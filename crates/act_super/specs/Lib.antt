@@ -4,6 +4,7 @@ pub mod Grounds
 pub mod Trees
 pub mod Packs
 pub mod Parts
+pub mod Shifts
 pub mod Sizes
 pub mod Training
 pub mod Frames

@@ -15,11 +15,13 @@
 #![tactic(auto)]
 
 mod after;
+mod both;
 mod entry;
 mod frame;
 mod gather;
 mod laws;
 mod leaf;
+mod lists;
 mod marks;
 mod narrow;
 mod next;
