@@ -9,7 +9,8 @@ use Rattle.act_super.specs.declared.verdict.Verdict.{Verdict}
 use Rattle.act_super.specs.declared.verdict.Verdict.TheVariants as verdict
 use Rattle.act_super.specs.Histories.{zones_after}
 use Rattle.act_super.specs.Joins.{Hit, join}
-use Rattle.act_super.specs.States.{nothing, reference_limit, verdict_of}
+use Rattle.act_super.specs.Packs.{reference_limit}
+use Rattle.act_super.specs.States.{nothing, verdict_of}
 use Rattle.act_script.specs.History.{accepted_from, decided, entries_in, entry_of, history_in, state_decided}
 use Rattle.act_script.specs.Script.{script_segments}
 use Rattle.act_script.specs.Segments.{batches_in}

@@ -1,12 +1,12 @@
 -- One zone more.
-use Rattle.std.proofs.Common.{◌≡◌, ℕ, ◌+◌, ◌-◌, ◌<◌, ◌≤◌, refl, sym, ap, ◌∙◌, arith, Bool, true, false, cond, ◌&&◌, ◌||◌, List, [], ◌∷◌, ◌++◌, length, length-append}
+use Rattle.std.proofs.Common.{◌≡◌, ℕ, ◌+◌, ◌-◌, refl, sym, ap, ◌∙◌, arith, Bool, true, false, cond, ◌&&◌, ◌||◌, List, [], ◌∷◌, ◌++◌, length, length-append}
 use Rattle.std.specs.Prelude.{nat_lt}
 use Rattle.std.proofs.lemmas.List.Folds.{list_any-append}
 use Rattle.act_grid.specs.Cell.{Address}
 use Rattle.act_cover.specs.Covering.{is_on}
 use Rattle.act_super.specs.Grounds.{Ground, asks, is_split, on, some_asks}
 use Rattle.act_super.specs.Shifts.{added}
-use Rattle.act_super.specs.Trees.{tree_of, under}
+use Rattle.act_super.specs.Trees.{under}
 use Rattle.act_super.proofs.TreeFacts.{same_counts}
 
 on_append : {X : Type 0} (g : Ground X) (items more : List X) (c : Address) → on g (items ++ more) c ≡ on g items c ++ on g more c

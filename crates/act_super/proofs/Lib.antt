@@ -18,3 +18,4 @@ pub mod LawFacts
 pub mod BlankFacts
 pub mod AddFacts
 pub mod ShiftFacts
+pub mod RoomFacts

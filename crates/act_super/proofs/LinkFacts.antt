@@ -116,3 +116,7 @@ most_within standings = most_few (standing_ground []) 28 standings root_cell
 pub rows_of_none : (settings : Settings) → rows_with settings [] [] ≡ 1
 unfolding rows_with tree_rows
 rows_of_none settings = ap (λ t. node_rows t + chains_of []) (under_leaf (zone_ground settings []) [] root_cell refl)
+
+pub most_of_none : (settings : Settings) → most_references settings [] ≡ 0
+unfolding most_references
+most_of_none settings = ap most (under_leaf (zone_ground settings []) [] root_cell refl)

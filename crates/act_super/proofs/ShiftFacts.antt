@@ -1,5 +1,5 @@
 -- Shifts of parts, put together.
-use Rattle.std.proofs.Common.{◌≡◌, ℕ, ◌+◌, ◌<◌, ◌≤◌, refl, sym, ap, ◌∙◌, subst, arith, max}
+use Rattle.std.proofs.Common.{◌≡◌, ℕ, ◌+◌, ◌≤◌, refl, arith, max}
 use Rattle.act_super.specs.declared.both.Shift.{Shift}
 use Rattle.act_super.specs.Shifts.{IsShift}
 

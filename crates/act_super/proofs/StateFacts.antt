@@ -15,15 +15,16 @@ use Rattle.act_super.specs.declared.entry.Zone.{Zone}
 use Rattle.act_super.specs.declared.standing.Standing.{Standing}
 use Rattle.act_super.specs.declared.verdict.Verdict.{Verdict}
 use Rattle.act_super.specs.declared.verdict.Verdict.TheVariants as verdict
+use Rattle.act_super.specs.Packs.{reference_limit}
 use Rattle.act_super.specs.Places.{IsRisingFrom, zones_with}
 use Rattle.act_super.specs.Sizes.{most_references, rows_with}
 use Rattle.act_super.specs.Sound.{IsSound}
 use Rattle.act_super.specs.Standings.{AreLevelled, shapes_in, standing_most, standing_rows}
-use Rattle.act_super.specs.States.{IsFor, Prepared, after, changed, first_cause, key_verdict, reference_limit, reshaped, room_of, room_verdict, trained_after, verdict_of, with_zone, without_key}
+use Rattle.act_super.specs.States.{IsFor, Prepared, after, changed, first_cause, key_verdict, reshaped, room_of, room_verdict, trained_after, verdict_of, with_zone, without_key}
 use Rattle.act_super.specs.Training.{fit}
 use Rattle.act_super.proofs.FitFacts.{fit_none}
 use Rattle.act_super.proofs.Keyed.{same_state, put_is, remove_is, reshape_is, shapes_are}
-use Rattle.act_super.proofs.LinkFacts.{rows_of_none, same_most, same_rows}
+use Rattle.act_super.proofs.LinkFacts.{most_of_none, rows_of_none, same_most, same_rows}
 
 abbrev shape_of : Standing → List (List Point)
 shape_of s = s.shape
@@ -175,6 +176,24 @@ within_limit limit most rows v = by (nat_lt reference_limit most) (nat_lt limit 
     by false true e v = absurd (cc)
     by false false e v = grind (arith, nat_tests)
 
+most_within_limit : (limit most rows : ℕ) → room_of limit most rows ≡ None → most ≤ reference_limit
+most_within_limit limit most rows v = by (nat_lt reference_limit most) refl v
+  where
+    by : (a : Bool) → nat_lt reference_limit most ≡ a
+        → ◌≡◌ {A = Option Verdict} (if a then Some (verdict.Refs most) else if nat_lt limit rows then Some (verdict.Rows rows limit) else None) None → most ≤ reference_limit
+    by true e v = absurd (cc)
+    by false e v = grind (arith, nat_tests)
+
+-- zones for which there is room keep both limits
+room_kept : (settings : Settings) (zones : List Zone) → room_verdict settings zones ≡ None → (most_references settings zones ≤ reference_limit) × (rows_with settings zones [] ≤ settings.rows)
+unfolding room_verdict
+room_kept settings zones v =
+    (most_within_limit settings.rows (most_references settings zones) (rows_with settings zones []) v, within_limit settings.rows (most_references settings zones) (rows_with settings zones []) v)
+
+second_none : (first second : Option Verdict) → first_cause first second ≡ None → second ≡ None
+second_none None second e = e
+second_none (Some why) second e = absurd (cc)
+
 -- a change of the zones of a state with no trained cell
 pub prepared : (settings : Settings) (state : State) (entry : Entry) (size most : ℕ) → [] ≡ state.trained
     → verdict_of settings state entry ≡ first_cause (key_verdict state.zones entry) (room_verdict settings (changed state.zones entry))
@@ -212,17 +231,22 @@ module _ (settings : Settings) (state : State) (change : Prepared) (keys : List 
   still : trained_after settings state change.entry ≡ trained
   still = t ∙ sym (fit_none settings (changed state.zones change.entry) state.trained (sym (same ∙ none))) ∙ sym none
 
-  pub sound_after : IsFor settings state change → IsRisingFrom 0 keys → length keys ≤ 4294967295 → IsSound settings keys standings trained change.size change.plain
-  sound_after p rising few = record {
-    lengths = h.lengths;
-    rising = rising;
-    few = few;
-    levels = h.levels;
-    sized = p.sized ∙ ap (rows_with settings (changed state.zones change.entry)) still ∙ ap (λ zs. rows_with settings zs trained) h.zones_are;
-    plainly = p.plainly ∙ ap (λ zs. rows_with settings zs []) h.zones_are;
-    fits = omega (arith, p.sized, p.within.rows);
-    untrained = none;
-  }
+  pub sound_after : verdict_of settings state change.entry ≡ first_cause (key_verdict state.zones change.entry) (room_verdict settings (changed state.zones change.entry))
+      → IsFor settings state change → IsRisingFrom 0 keys → length keys ≤ 4294967295 → IsSound settings keys standings trained change.size change.plain
+  sound_after v p rising few =
+      let kept = room_kept settings (changed state.zones change.entry) (second_none (key_verdict state.zones change.entry) (room_verdict settings (changed state.zones change.entry)) (sym v ∙ p.accepted)) in
+      record {
+        lengths = h.lengths;
+        rising = rising;
+        few = few;
+        levels = h.levels;
+        sized = p.sized ∙ ap (rows_with settings (changed state.zones change.entry)) still ∙ ap (λ zs. rows_with settings zs trained) h.zones_are;
+        plainly = p.plainly ∙ ap (λ zs. rows_with settings zs []) h.zones_are;
+        fits = omega (arith, p.sized, p.within.rows);
+        plain_fits = omega (arith, p.plainly, kept.1);
+        referenced = omega (arith, kept.0, ap (most_references settings) h.zones_are);
+        untrained = none;
+      }
 
   pub state_after : ◌≡◌ {A = State} (record { zones = zones_with keys (shapes_in standings); trained = trained }) (after settings state change.entry)
   state_after = same_state _ _ _ _ (sym h.zones_are) (sym still)
@@ -241,5 +265,7 @@ sound_nothing settings least = record {
   sized = sym (rows_of_none settings);
   plainly = sym (rows_of_none settings);
   fits = least;
+  plain_fits = least;
+  referenced = omega (arith, most_of_none settings);
   untrained = refl;
 }

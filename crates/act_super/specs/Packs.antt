@@ -4,6 +4,10 @@ use Rattle.act_super.specs.declared.pack.Pack.{Pack}
 use Rattle.act_super.specs.Trees.{Tree}
 use Rattle.act_super.specs.Trees.Tree.{Leaf, Split}
 
+-- the references that a leaf may have: its list then fills a row
+abbrev pub reference_limit : ℕ
+reference_limit = 510
+
 -- no list row yet: the next list starts one
 abbrev pub empty_pack : Pack
 empty_pack = record { rows = 0; at = 256 }

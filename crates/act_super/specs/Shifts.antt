@@ -1,6 +1,7 @@
 -- What one zone more changes of a part of the super covering.
-use Rattle.std.specs.Prelude.{◌≡◌, ℕ, ◌+◌, ◌≤◌, ◌++◌, List, [], ◌∷◌, max}
+use Rattle.std.specs.Prelude.{◌≡◌, ℕ, ◌+◌, ◌<◌, ◌≤◌, ◌++◌, List, [], ◌∷◌, max}
 use Rattle.act_super.specs.declared.both.Shift.{Shift}
+use Rattle.act_super.specs.Packs.{reference_limit}
 
 -- the items with one more
 abbrev pub added : {X : Type 0} → List X → X → List X
@@ -16,3 +17,8 @@ pub record IsShift (old new most_old most_new : ℕ) (s : Shift) : Type 0 where
   pub without_high : most_old ≤ max s.without most_new
   pub with_low : s.with ≤ most_new
   pub with_high : most_new ≤ max s.with most_old
+
+-- a number that is the greatest number of references where it is above the limit, and else tells that that one isn't
+pub record IsMost (found real : ℕ) : Type 0 where
+  pub above : reference_limit < found → found ≡ real
+  pub below : found ≤ reference_limit → real ≤ reference_limit

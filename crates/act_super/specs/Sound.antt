@@ -8,7 +8,8 @@ use Rattle.act_super.specs.declared.next.Change.{Change}
 use Rattle.act_super.specs.declared.next.Change.TheVariants as change
 use Rattle.act_super.specs.declared.standing.Standing.{Standing}
 use Rattle.act_super.specs.Places.{IsRising, zones_with}
-use Rattle.act_super.specs.Sizes.{rows_with}
+use Rattle.act_super.specs.Packs.{reference_limit}
+use Rattle.act_super.specs.Sizes.{most_references, rows_with}
 use Rattle.act_super.specs.Standings.{AreLevelled, shapes_in}
 
 -- the keys ascend, a standing with its Level stands beside each, and the two numbers are the Size of the state and what
@@ -21,6 +22,8 @@ pub record IsSound (settings : Settings) (keys : List ℕ) (standings : List Sta
   pub sized : size ≡ rows_with settings (zones_with keys (shapes_in standings)) trained
   pub plainly : plain ≡ rows_with settings (zones_with keys (shapes_in standings)) []
   pub fits : size ≤ settings.rows
+  pub plain_fits : plain ≤ settings.rows
+  pub referenced : most_references settings (zones_with keys (shapes_in standings)) ≤ reference_limit
   pub untrained : trained ≡ []
 
 -- the standing that a change brings has its Level for this budget of cells

@@ -18,8 +18,8 @@ use Rattle.act_super.specs.declared.entry.Zone.{Zone}
 use Rattle.act_super.specs.declared.refs.ZoneRef.{ZoneRef}
 use Rattle.act_super.specs.Nodes.{IsNode, Start, count_at, entry_cell, first_leaf, ground_of, is_parted, list_rows, list_start, node_leaves, nodes_of}
 use Rattle.act_super.specs.Grounds.{leaf_at}
-use Rattle.act_super.specs.States.{nothing, reference_limit}
-use Rattle.act_super.specs.Packs.{empty_pack, list_words}
+use Rattle.act_super.specs.States.{nothing}
+use Rattle.act_super.specs.Packs.{empty_pack, list_words, reference_limit}
 use Rattle.act_super.specs.Sizes.{chain_rows, refs_of}
 
 -- which rows serve for what: the row of each node, its list rows, and the rows of each key's chain

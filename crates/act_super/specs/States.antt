@@ -10,6 +10,7 @@ use Rattle.act_super.specs.declared.entry.Entry.{Entry}
 use Rattle.act_super.specs.declared.entry.Entry.TheVariants as entry
 use Rattle.act_super.specs.declared.verdict.Verdict.{Verdict}
 use Rattle.act_super.specs.declared.verdict.Verdict.TheVariants as verdict
+use Rattle.act_super.specs.Packs.{reference_limit}
 use Rattle.act_super.specs.Shapes.{same_rings}
 use Rattle.act_super.specs.Sizes.{most_references, rows_with, size_of}
 use Rattle.act_super.specs.Training.{fit, most_trained}
@@ -70,10 +71,6 @@ key_verdict zones (entry.Add key shape) = if has_key key zones then Some verdict
 key_verdict zones (entry.DropZone key) = if has_key key zones then None else Some verdict.Unknown
 key_verdict zones (entry.Replace key shape) = if has_key key zones then (if has_zone key shape zones then Some verdict.Same else None) else Some verdict.Unknown
 key_verdict zones (entry.Train cells) = None
-
--- the references that a leaf may have
-abbrev pub reference_limit : ℕ
-reference_limit = 510
 
 -- why a greatest number of references, or a number of rows, is too great for so many rows
 abbrev pub room_of : ℕ → ℕ → ℕ → Option Verdict

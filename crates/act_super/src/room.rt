@@ -1,16 +1,21 @@
 //! Whether there is room for zones.
 
-ghost use Rattle.std.specs.Prelude.{◌≡◌, ◌⊎◌, ◌+◌, ◌*◌, ◌^◌, ◌<◌, ◌≤◌, IfErr, IfOk, None, Some, [], length, sum_by};
+ghost use Rattle.std.specs.Prelude.{◌≡◌, ℕ, ◌⊎◌, ◌+◌, ◌*◌, ◌^◌, ◌<◌, ◌≤◌, IfErr, IfOk, None, Some, [], length, sum_by};
 ghost use Rattle.act_super.specs.declared.standing.Standing.{Standing};
 ghost use Rattle.act_super.specs.declared.verdict.Verdict.TheVariants.{NoMemory as Unfed};
+ghost use Rattle.act_grid.specs.Cell.{root_cell};
+ghost use Rattle.act_super.specs.Packs.{node_rows, reference_limit};
+ghost use Rattle.act_super.specs.Shifts.{IsMost, IsShift, added};
 ghost use Rattle.act_super.specs.Sizes.{chain_rows};
+ghost use Rattle.act_super.specs.Trees.{most, under};
 ghost use Rattle.act_super.specs.Sound.{spliced};
-ghost use Rattle.act_super.specs.Standings.{standing_most, standing_rows, values};
+ghost use Rattle.act_super.specs.Standings.{standing_ground, standing_most, standing_rows, values};
 ghost use Rattle.act_super.specs.States.{room_of};
 
+use crate::both::{Shift, both};
 use crate::gather::gathered;
 use crate::marks::Marks;
-use crate::narrow::part_on;
+use crate::narrow::{asks, is_on, part_on};
 use crate::pack::Pack;
 use crate::standing::Standing;
 use crate::verdict::Verdict;
@@ -25,37 +30,177 @@ const MOST_REFERENCES: u64 = 510;
 /// The words of a body that stand in a row of a chain.
 const CHAIN_WORDS: u64 = 255;
 
-/// The rows that the standings before a place, perhaps one more, and those from a place on take where no cell is
-/// trained, or why they are too many.
+/// The rows that the standings before a place, perhaps one more, and those from that place or the next one on take
+/// where no cell is trained, or why they are too many. What they take as they stand is given. It looks at what one zone
+/// more or less changes alone.
 pub(crate) fn room_in(
     alloc: Global,
     standings: &[Standing],
     from: usize,
     new: Option<&Standing>,
     to: usize,
+    plain: u64,
     limit: u32,
 ) -> Result<u64, Verdict>
     requires from { from ≤ length standings.now }
     requires to { to ≤ length standings.now }
-    requires few { length (spliced standings.now from new to) < 2 ^ 32 }
+    requires step { (to ≡ from) ⊎ (to ≡ from + 1) }
+    requires few { length standings.now < 2 ^ 32 }
+    requires countable { length (spliced standings.now from new to) < 2 ^ 32 }
+    requires plain { plain ≡ standing_rows [] standings.now }
+    requires small { plain < 2 ^ 32 }
+    requires most { standing_most standings.now ≤ reference_limit }
     ensures ok { IfOk result (λ rows. let zones = spliced standings.now from new.entry to in (rows ≡ standing_rows [] zones) × (room_of limit (standing_most zones) rows ≡ None)) }
     ensures err { IfErr result (λ why. let zones = spliced standings.now from new.entry to in (why ≡ Unfed) ⊎ (room_of limit (standing_most zones) (standing_rows [] zones) ≡ Some why)) }
 {
-    let Ok(zones) = gathered(alloc, standings, from, new, to) else {
+    let Ok(others) = gathered(alloc, standings, from, None, to) else {
         return Err(Verdict::NoMemory);
     };
-    room(alloc, zones.as_slice(), limit)
+    let Ok(bare) = bare_in(alloc, standings, from, to, others.as_slice(), plain) else {
+        return Err(Verdict::NoMemory);
+    };
+    let Some(zone) = new else {
+        return verdict(bare, limit);
+    };
+    if bare.most > MOST_REFERENCES {
+        let Ok(all) = gathered(alloc, standings, from, Some(zone), to) else {
+            return Err(Verdict::NoMemory);
+        };
+        return room(alloc, all.as_slice(), limit);
+    }
+    let Ok(found) = more(alloc, others.as_slice(), zone, bare.rows) else {
+        return Err(Verdict::NoMemory);
+    };
+    verdict(found, limit)
 }
 
-// The rows that the zones take where no cell is trained, or why they are too many.
-fn room(alloc: Global, zones: &[&Standing], limit: u32) -> Result<u64, Verdict>
-    requires { length zones.now < 2 ^ 32 }
-    ensures ok { IfOk result (λ rows. (rows ≡ standing_rows [] (values zones.now)) × (room_of limit (standing_most (values zones.now)) rows ≡ None)) }
-    ensures err { IfErr result (λ why. (why ≡ Unfed) ⊎ (room_of limit (standing_most (values zones.now)) (standing_rows [] (values zones.now)) ≡ Some why)) }
+// What the others take of the standings, where at most one of these is left out.
+fn bare_in(
+    alloc: Global,
+    standings: &[Standing],
+    from: usize,
+    to: usize,
+    others: &[&Standing],
+    plain: u64,
+) -> Result<Found, AllocError>
+    requires from { from ≤ length standings.now }
+    requires to { to ≤ length standings.now }
+    requires step { (to ≡ from) ⊎ (to ≡ from + 1) }
+    requires few { length standings.now < 2 ^ 32 }
+    requires others { values others.now ≡ spliced standings.now from None to }
+    requires plain { plain ≡ standing_rows [] standings.now }
+    requires small { plain < 2 ^ 32 }
+    requires most { standing_most standings.now ≤ reference_limit }
+    ensures rows { IfOk result (λ found. found.rows ≡ standing_rows [] (values others.now)) }
+    ensures most { IfOk result (λ found. IsMost found.most (standing_most (values others.now))) }
+    ensures few { IfOk result (λ found. found.most < 2 ^ 32) }
+    ensures fits { IfOk result (λ found. found.rows < 2 ^ 60) }
 {
-    let Ok(found) = measured(alloc, zones) else {
-        return Err(Verdict::NoMemory);
-    };
+    if to == from {
+        return Ok(Found {
+            rows: plain,
+            most: 0,
+        });
+    }
+    fewer(alloc, others, &standings[from], plain)
+}
+
+// What the zones take with one more.
+fn more(
+    alloc: Global,
+    others: &[&Standing],
+    zone: &Standing,
+    rows: u64,
+) -> Result<Found, AllocError>
+    requires few { length others.now + 1 < 2 ^ 32 }
+    requires rows { rows ≡ standing_rows [] (values others.now) }
+    requires small { rows < 2 ^ 60 }
+    requires most { standing_most (values others.now) ≤ reference_limit }
+    ensures rows { IfOk result (λ found. found.rows ≡ standing_rows [] (added (values others.now) zone.now)) }
+    ensures most { IfOk result (λ found. IsMost found.most (standing_most (added (values others.now) zone.now))) }
+    ensures few { IfOk result (λ found. found.most < 2 ^ 32) }
+{
+    let shift = shift_at_root(alloc, others, zone)?;
+    let chain = chain_rows(&zone.shape);
+    let nodes = rows + shift.more - shift.less;
+    Ok(Found {
+        rows: nodes + chain,
+        most: shift.with,
+    })
+}
+
+// What the zones take without one.
+fn fewer(
+    alloc: Global,
+    others: &[&Standing],
+    zone: &Standing,
+    rows: u64,
+) -> Result<Found, AllocError>
+    requires few { length others.now + 1 < 2 ^ 32 }
+    requires rows { rows ≡ standing_rows [] (added (values others.now) zone.now) }
+    requires small { rows < 2 ^ 32 }
+    requires most { standing_most (added (values others.now) zone.now) ≤ reference_limit }
+    ensures rows { IfOk result (λ found. found.rows ≡ standing_rows [] (values others.now)) }
+    ensures most { IfOk result (λ found. IsMost found.most (standing_most (values others.now))) }
+    ensures few { IfOk result (λ found. found.most < 2 ^ 32) }
+    ensures fits { IfOk result (λ found. found.rows < 2 ^ 60) }
+{
+    let shift = shift_at_root(alloc, others, zone)?;
+    let chain = chain_rows(&zone.shape);
+    let nodes = rows - chain;
+    Ok(Found {
+        rows: nodes + shift.less - shift.more,
+        most: shift.without,
+    })
+}
+
+// What one zone more changes of the rows of nodes and lists, and of the greatest number of references.
+fn shift_at_root(alloc: Global, others: &[&Standing], zone: &Standing) -> Result<Shift, AllocError>
+    requires { length others.now + 1 < 2 ^ 32 }
+    ensures shift { IfOk result (λ shift. let old = under (standing_ground []) (values others.now) root_cell in let new = under (standing_ground []) (added (values others.now) zone.now) root_cell in IsShift (node_rows old) (node_rows new) (most old) (most new) shift) }
+    ensures fits { IfOk result (λ shift. (shift.less < 2 ^ 58) × (shift.more < 2 ^ 58)) }
+{
+    let marks = Marks::new(alloc);
+    let root = Cell::root();
+    let class = zone.class_on(root, root.hull());
+    if !is_on(class) {
+        return Ok(Shift {
+            less: 0,
+            more: 0,
+            without: 0,
+            with: 0,
+        });
+    }
+    let wanted = asks(zone, class, root.level(), marks.has(root));
+    let top = part_on(alloc, others, &marks, root)?;
+    let mut old = Pack::empty();
+    let mut new = Pack::empty();
+    let shift = both(
+        alloc,
+        &marks,
+        4,
+        top.zones.as_slice(),
+        top.split,
+        zone,
+        wanted,
+        root,
+        &mut old,
+        &mut new,
+    )?;
+    Ok(Shift {
+        less: old.rows + shift.less,
+        more: new.rows + shift.more,
+        without: shift.without,
+        with: shift.with,
+    })
+}
+
+// The rows that were found, or why these or the references are too many.
+fn verdict(found: Found, limit: u32) -> Result<u64, Verdict>
+    requires { found.most < 2 ^ 32 }
+    ensures ok { IfOk result (λ rows. (rows ≡ found.rows) × ((real : ℕ) → IsMost found.most real → room_of limit real found.rows ≡ None)) }
+    ensures err { IfErr result (λ why. (real : ℕ) → IsMost found.most real → room_of limit real found.rows ≡ Some why) }
+{
     if found.most > MOST_REFERENCES {
         return Err(Verdict::Refs {
             need: found.most as u32,
@@ -68,6 +213,18 @@ fn room(alloc: Global, zones: &[&Standing], limit: u32) -> Result<u64, Verdict>
         });
     }
     Ok(found.rows)
+}
+
+// The rows that the zones take where no cell is trained, or why they are too many.
+fn room(alloc: Global, zones: &[&Standing], limit: u32) -> Result<u64, Verdict>
+    requires { length zones.now < 2 ^ 32 }
+    ensures ok { IfOk result (λ rows. (rows ≡ standing_rows [] (values zones.now)) × (room_of limit (standing_most (values zones.now)) rows ≡ None)) }
+    ensures err { IfErr result (λ why. (why ≡ Unfed) ⊎ (room_of limit (standing_most (values zones.now)) (standing_rows [] (values zones.now)) ≡ Some why)) }
+{
+    let Ok(found) = measured(alloc, zones) else {
+        return Err(Verdict::NoMemory);
+    };
+    verdict(found, limit)
 }
 
 // The rows that the zones take, and the greatest number of references of a leaf.

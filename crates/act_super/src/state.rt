@@ -108,6 +108,7 @@ impl Super {
             at,
             Some(&zone),
             at,
+            self.plain,
             self.settings.rows,
         );
         let size = match room {
@@ -136,7 +137,15 @@ impl Super {
         let Ok(at) = place(&self.keys, key) else {
             return Err(Verdict::Unknown);
         };
-        let size = room_in(alloc, &self.standings, at, None, at + 1, self.settings.rows)?;
+        let size = room_in(
+            alloc,
+            &self.standings,
+            at,
+            None,
+            at + 1,
+            self.plain,
+            self.settings.rows,
+        )?;
         Ok(Next {
             change: Change::DropZone(key),
             size,
@@ -176,6 +185,7 @@ impl Super {
             at,
             Some(&zone),
             at + 1,
+            self.plain,
             self.settings.rows,
         );
         let size = match room {

@@ -1,10 +1,10 @@
-use Rattle.std.proofs.Common.{rules, ◌≡◌, ◌+◌, ◌*◌, ◌^◌, ◌<◌, ◌≤◌, ◌&&◌, length, ◌-◌, true, false, arith, sym, ◌∙◌, ap, refl}
+use Rattle.std.proofs.Common.{rules, ◌≡◌, ◌+◌, ◌*◌, ◌^◌, ◌<◌, ◌≤◌, ◌&&◌, length, ◌-◌, true, arith, sym, ◌∙◌, ap}
 use Rattle.std.specs.Prelude.{nat_lt}
 use Rattle.act_grid.specs.Cell.{Address, IsCell, child_of}
 use Rattle.act_cover.proofs.Placed.{child_cell}
 use Rattle.act_cover.specs.Covering.{class_at, is_on}
 use Rattle.act_super.specs.declared.pack.Pack.{Pack}
-use Rattle.act_super.specs.Grounds.{asks, is_among, is_mixed, is_split, on}
+use Rattle.act_super.specs.Grounds.{asks, is_split, on}
 use Rattle.act_super.specs.Packs.{empty_pack, inner, put_leaf, put_tree}
 use Rattle.act_super.specs.Parts.{four_parts, inner_four, most_four, part, put_four}
 use Rattle.act_super.specs.Shifts.{added}

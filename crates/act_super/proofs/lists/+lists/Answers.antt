@@ -1,16 +1,14 @@
 use Rattle.std.proofs.Common.{rules, ◌≡◌, ◌+◌, ◌*◌, ◌^◌, ◌<◌, ◌≤◌, length, ◌-◌, arith, sym, ◌∙◌, ap}
-use Rattle.act_grid.specs.Cell.{Address, IsCell, child_of}
+use Rattle.act_grid.specs.Cell.{Address, IsCell}
 use Rattle.act_cover.proofs.Placed.{child_cell}
-use Rattle.act_super.specs.declared.pack.Pack.{Pack}
 use Rattle.act_super.specs.Grounds.{is_split, on}
-use Rattle.act_super.specs.Packs.{empty_pack, inner, put_leaf, put_tree}
-use Rattle.act_super.specs.Parts.{four_parts, part, put_four}
+use Rattle.act_super.specs.Packs.{put_leaf, put_tree}
+use Rattle.act_super.specs.Parts.{part}
 use Rattle.act_super.specs.Standings.{standing_ground, values}
-use Rattle.act_super.specs.Trees.{most}
-use Rattle.act_super.proofs.RowFacts.{inner_fits, rows_after, rows_four}
+use Rattle.act_super.proofs.RowFacts.{rows_after}
 use Rattle.act_super.proofs.StandingFacts.{length_values, standings_go_down}
 use Rattle.act_super.proofs.TreeFacts.{on_again, split_on}
-use Rattle.act_super.proofs.UnderFacts.{inner_as_four, inner_as_node, leaf_here, length_on, most_as_four, pow_one, pow_step, put_as_four, put_none, split_low}
+use Rattle.act_super.proofs.UnderFacts.{leaf_here, length_on, pow_one, pow_step, put_as_four, put_none, split_low}
 use Rattle.act_super.proofs.lists.+lists.Goals as goal
 
 pub lists-put_leaf-requires-clause-rows : goal.lists-put_leaf-requires-clause-rows

@@ -5,7 +5,7 @@ use Rattle.act_super.specs.Places.{zones_with}
 use Rattle.act_super.specs.Standings.{shapes_in, standing_most, standing_rows}
 use Rattle.act_super.specs.States.{Plain, has_key, key_verdict, room_of}
 use Rattle.act_super.proofs.Keyed.{has_found, has_free}
-use Rattle.act_super.proofs.StateFacts.{IsAt, IsFree, IsHeld, held_accepted, held_added, held_rows, joined, length_shapes, prepared, turned}
+use Rattle.act_super.proofs.StateFacts.{IsAt, IsFree, IsHeld, held_accepted, held_added, held_most, held_rows, joined, length_shapes, prepared, turned}
 use Rattle.act_super.proofs.state.Super.prepare_add.Goals as goal
 
 pub returns-in_default-clause-err : goal.returns-in_default-clause-err
@@ -49,3 +49,15 @@ returns-clause-ok c =
       rw settings (prepared c.self.inside.settings c.args.self.now.state (entry.Add c.args.key c.new-zone.result.shape) c.in-Ok-room.size _ trained refl refl free room fits (size ∙ held_rows c.self.inside.settings _ _ _ [] more)),
       omega (arith, c.in-Ok.ensures.ok, c.in-Ok-reserve.ensures.ok, c.reserve.ensures.len, c.self.invariant.lengths),
     )
+
+pub room_in-room-requires-clause-plain : goal.room_in-room-requires-clause-plain
+room_in-room-requires-clause-plain c =
+    let held : IsHeld c.self.inside.settings (zones_with c.self.inside.keys.items (shapes_in c.self.inside.standings.items)) c.self.inside.keys.items c.self.inside.standings.items =
+    record { zones_are = refl; lengths = c.self.invariant.lengths; levels = c.self.invariant.levels } in
+    c.self.invariant.plainly ∙ sym (held_rows c.self.inside.settings _ _ _ [] held) ∙ ap (standing_rows []) (sym (c.deref-2.ensures.value ∙ c.in-Ok-reserve.ensures.items))
+
+pub room_in-room-requires-clause-most : goal.room_in-room-requires-clause-most
+room_in-room-requires-clause-most c =
+    let held : IsHeld c.self.inside.settings (zones_with c.self.inside.keys.items (shapes_in c.self.inside.standings.items)) c.self.inside.keys.items c.self.inside.standings.items =
+    record { zones_are = refl; lengths = c.self.invariant.lengths; levels = c.self.invariant.levels } in
+    omega (arith, c.self.invariant.referenced, held_most c.self.inside.settings _ _ _ held, ap standing_most (c.deref-2.ensures.value ∙ c.in-Ok-reserve.ensures.items))

@@ -6,7 +6,7 @@ use Rattle.act_super.specs.Places.{zones_with}
 use Rattle.act_super.specs.Standings.{shapes_in, standing_most, standing_rows}
 use Rattle.act_super.specs.States.{Plain, has_key, key_verdict, room_of}
 use Rattle.act_super.proofs.Keyed.{has_found, has_free}
-use Rattle.act_super.proofs.StateFacts.{IsAt, IsFree, IsHeld, held_accepted, held_dropped, held_rows, joined, length_shapes, prepared, turned}
+use Rattle.act_super.proofs.StateFacts.{IsAt, IsFree, IsHeld, held_accepted, held_dropped, held_most, held_rows, joined, length_shapes, prepared, turned}
 use Rattle.act_super.proofs.state.Super.prepare_drop.Goals as goal
 
 pub returns-in_default-clause-err : goal.returns-in_default-clause-err
@@ -53,3 +53,15 @@ returns-clause-ok c =
       rw settings (prepared c.self.inside.settings c.args.self.now.state (entry.DropZone c.args.key) c.in_ok-size.size _ trained refl refl stands room fits (size ∙ held_rows c.self.inside.settings _ _ _ [] less)),
       omega arith,
     )
+
+pub room_in-requires-clause-plain : goal.room_in-requires-clause-plain
+room_in-requires-clause-plain c =
+    let held : IsHeld c.self.inside.settings (zones_with c.self.inside.keys.items (shapes_in c.self.inside.standings.items)) c.self.inside.keys.items c.self.inside.standings.items =
+    record { zones_are = refl; lengths = c.self.invariant.lengths; levels = c.self.invariant.levels } in
+    c.self.invariant.plainly ∙ sym (held_rows c.self.inside.settings _ _ _ [] held) ∙ ap (standing_rows []) (sym (c.deref-2.ensures.value))
+
+pub room_in-requires-clause-most : goal.room_in-requires-clause-most
+room_in-requires-clause-most c =
+    let held : IsHeld c.self.inside.settings (zones_with c.self.inside.keys.items (shapes_in c.self.inside.standings.items)) c.self.inside.keys.items c.self.inside.standings.items =
+    record { zones_are = refl; lengths = c.self.invariant.lengths; levels = c.self.invariant.levels } in
+    omega (arith, c.self.invariant.referenced, held_most c.self.inside.settings _ _ _ held, ap standing_most (c.deref-2.ensures.value))

@@ -7,7 +7,7 @@ use Rattle.act_super.specs.Shapes.{same_rings}
 use Rattle.act_super.specs.Standings.{shapes_in, standing_most, standing_rows}
 use Rattle.act_super.specs.States.{Plain, has_key, has_zone, key_verdict, room_of}
 use Rattle.act_super.proofs.Keyed.{has_found, has_free, zone_is}
-use Rattle.act_super.proofs.StateFacts.{IsAt, IsFree, IsHeld, held_accepted, held_reshaped, held_rows, joined, length_shapes, prepared, shape_at_place, turned}
+use Rattle.act_super.proofs.StateFacts.{IsAt, IsFree, IsHeld, held_accepted, held_reshaped, held_most, held_rows, joined, length_shapes, prepared, shape_at_place, turned}
 use Rattle.act_super.proofs.state.Super.prepare_replace.Goals as goal
 
 pub returns-in_default-clause-err : goal.returns-in_default-clause-err
@@ -72,3 +72,15 @@ returns-clause-ok c =
       rw settings (prepared c.self.inside.settings c.args.self.now.state (entry.Replace c.args.key c.new-zone.result.shape) c.in-Ok-room.size _ trained refl refl stands room fits (size ∙ held_rows c.self.inside.settings _ _ _ [] other)),
       omega arith,
     )
+
+pub room_in-room-requires-clause-plain : goal.room_in-room-requires-clause-plain
+room_in-room-requires-clause-plain c =
+    let held : IsHeld c.self.inside.settings (zones_with c.self.inside.keys.items (shapes_in c.self.inside.standings.items)) c.self.inside.keys.items c.self.inside.standings.items =
+    record { zones_are = refl; lengths = c.self.invariant.lengths; levels = c.self.invariant.levels } in
+    c.self.invariant.plainly ∙ sym (held_rows c.self.inside.settings _ _ _ [] held) ∙ ap (standing_rows []) (sym (c.deref-2.ensures.value))
+
+pub room_in-room-requires-clause-most : goal.room_in-room-requires-clause-most
+room_in-room-requires-clause-most c =
+    let held : IsHeld c.self.inside.settings (zones_with c.self.inside.keys.items (shapes_in c.self.inside.standings.items)) c.self.inside.keys.items c.self.inside.standings.items =
+    record { zones_are = refl; lengths = c.self.invariant.lengths; levels = c.self.invariant.levels } in
+    omega (arith, c.self.invariant.referenced, held_most c.self.inside.settings _ _ _ held, ap standing_most (c.deref-2.ensures.value))

@@ -37,7 +37,7 @@ invariant_of-self c =
     let rises : IsRising (insert c.self.inside.keys.items c.in-Err.at c.args.key) = rising_insert 0 c.args.key c.self.inside.keys.items c.in-Err.at c.self.invariant.rising (omega arith) place.0 place.1 place.2 in
     let rising : IsRising c.insert.new.self.items = rw c.in-Ok.ensures.items rises in
     let few : length c.insert.new.self.items ≤ 4294967295 = omega (arith, c.in-Ok.ensures.len, c.requires.room, ap (λ (p : Plain). p.spare) c.self.view_is) in
-    sound_after c.self.inside.settings c.args.self.now.state (record { entry = entry.Add c.args.key c.args.zone.shape; size = c.args.size; plain = c.args.plain; cells = c.self.inside.settings.cells }) c.insert.new.self.items c.insert-2.new.self.items c.self.inside.marks held_now trained c.self.invariant.untrained refl prepared rising few
+    sound_after c.self.inside.settings c.args.self.now.state (record { entry = entry.Add c.args.key c.args.zone.shape; size = c.args.size; plain = c.args.plain; cells = c.self.inside.settings.cells }) c.insert.new.self.items c.insert-2.new.self.items c.self.inside.marks held_now trained c.self.invariant.untrained refl refl prepared rising few
 
 pub returns : goal.returns
 returns c =

@@ -34,7 +34,7 @@ invariant_of-self c =
     let rises : IsRising (remove c.self.inside.keys.items c.in-Ok.at) = rising_remove 0 c.self.inside.keys.items c.in-Ok.at c.self.invariant.rising place.0 in
     let rising : IsRising c.remove.new.self.items = rw c.remove.ensures.items rises in
     let few : length c.remove.new.self.items ≤ 4294967295 = omega (arith, c.remove.ensures.len, c.self.invariant.few) in
-    sound_after c.self.inside.settings c.args.self.now.state (record { entry = entry.DropZone c.args.key; size = c.args.size; plain = c.args.plain; cells = c.self.inside.settings.cells }) c.remove.new.self.items c.remove-2.new.self.items c.self.inside.marks held_now trained c.self.invariant.untrained refl prepared rising few
+    sound_after c.self.inside.settings c.args.self.now.state (record { entry = entry.DropZone c.args.key; size = c.args.size; plain = c.args.plain; cells = c.self.inside.settings.cells }) c.remove.new.self.items c.remove-2.new.self.items c.self.inside.marks held_now trained c.self.invariant.untrained refl refl prepared rising few
 
 pub returns : goal.returns
 returns c =

@@ -34,7 +34,7 @@ invariant_of-self c =
     subst (λ ss. IsHeld c.self.inside.settings (reshaped c.args.key c.args.zone.shape c.args.self.now.state.zones) c.self.inside.keys.items ss) (joined_set c.self.inside.standings.items c.in-Ok.at c.args.zone (omega (arith, place.0, c.self.invariant.lengths))) other in
     let rising = c.self.invariant.rising in
     let few = c.self.invariant.few in
-    sound_after c.self.inside.settings c.args.self.now.state (record { entry = entry.Replace c.args.key c.args.zone.shape; size = c.args.size; plain = c.args.plain; cells = c.self.inside.settings.cells }) c.self.inside.keys.items (slice_set c.self.inside.standings.items c.in-Ok.at c.args.zone) c.self.inside.marks held_now trained c.self.invariant.untrained refl prepared rising few
+    sound_after c.self.inside.settings c.args.self.now.state (record { entry = entry.Replace c.args.key c.args.zone.shape; size = c.args.size; plain = c.args.plain; cells = c.self.inside.settings.cells }) c.self.inside.keys.items (slice_set c.self.inside.standings.items c.in-Ok.at c.args.zone) c.self.inside.marks held_now trained c.self.invariant.untrained refl refl prepared rising few
 
 pub returns : goal.returns
 returns c =
