@@ -1,8 +1,11 @@
-//! The state of the index as plain data: the zones that stand, and what each update leads to.
+//! The super covering: one adaptive covering of all zones by the cells of a quadtree, as plain data,
+//! and what each update leads to.
 //!
-//! A history is a list of entries, each an accepted update; the state after it is a fold of its
-//! entries from nothing. An update is prepared first, which decides whether it is accepted and takes
-//! the memory that it needs, and is then made by `commit`, which can't fail.
+//! A cell is split where a zone that is Mixed on it asks for it. A cell that is reached and not split is
+//! a leaf, and refers to the zones that aren't Outside on it. A history is a list of entries, each an
+//! accepted update; the state after it is a fold of its entries from nothing. An update is prepared first,
+//! which decides whether there is room for it and takes the memory that it needs, and is then made by
+//! `commit`, which can't fail. No tree is kept: a change goes down where the changed zone is.
 //!
 //! The layers above use one contract: a prepared change leads to the state after its entry, or the
 //! update is turned away with the verdict of the definitions.
