@@ -11,9 +11,9 @@ fn square(alloc: Global, x: i32, y: i32, side: i32) -> Result<Shape, Fail> {
     let at = |x, y| Point { x, y };
     let ring = [
         at(x, y),
-        at(x + side, y),
-        at(x + side, y + side),
-        at(x, y + side),
+        at(x.saturating_add(side), y),
+        at(x.saturating_add(side), y.saturating_add(side)),
+        at(x, y.saturating_add(side)),
     ];
     shape.push_ring(&ring)?;
     Ok(shape)
