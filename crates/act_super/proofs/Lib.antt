@@ -19,3 +19,7 @@ pub mod BlankFacts
 pub mod AddFacts
 pub mod ShiftFacts
 pub mod RoomFacts
+pub mod PackFacts
+pub mod GrowFacts
+pub mod TrainFacts
+pub mod NodeFacts

@@ -1,5 +1,5 @@
 -- Laws of leaves and their references.
-use Rattle.std.specs.Prelude.{◌≡◌, ◌<◌, ◌||◌, true, false, List, filter}
+use Rattle.std.specs.Prelude.{◌≡◌, ℕ, ◌+◌, ◌*◌, ◌<◌, ◌≤◌, ◌||◌, true, false, List, filter}
 use Rattle.act_grid.specs.declared.Point.{Point}
 use Rattle.act_grid.specs.declared.Settings.{Settings}
 use Rattle.act_grid.specs.Hull.{IsIn}
@@ -8,8 +8,9 @@ use Rattle.act_geom.specs.Inside.{is_inside}
 use Rattle.act_cover.specs.Covering.{class_at, is_on, is_within}
 use Rattle.act_super.specs.declared.entry.State.{State}
 use Rattle.act_super.specs.declared.entry.Zone.{Zone}
-use Rattle.act_super.specs.Grounds.{is_split, zone_ground}
-use Rattle.act_super.specs.Sizes.{leaf_of}
+use Rattle.act_super.specs.Grounds.{is_among, is_split, zone_ground}
+use Rattle.act_super.specs.Sizes.{leaf_of, rows_with}
+use Rattle.act_super.specs.Trees.{splits, under}
 
 -- the zones that a cell's references answer for a point: each true hit, and each candidate that holds the point by its
 -- exact test
@@ -39,3 +40,15 @@ LeafHoldsPoint = (settings : Settings) (state : State) (p : Point) → IsIn (hul
 abbrev pub OneLeafHoldsPoint : Type 0
 OneLeafHoldsPoint =
     (settings : Settings) (state : State) (c d : Address) (p : Point) → IsLeaf settings state c → IsLeaf settings state d → IsIn (hull_of c) p → IsIn (hull_of d) p → c ≡ d
+
+-- the cells that are split, where these are trained
+abbrev pub splits_with : Settings → List Zone → List Address → ℕ
+splits_with settings zones trained = splits (under (zone_ground settings trained) zones root_cell)
+
+-- under any trained cells between some and more, the rows exceed those under the first by at most five for each cell that
+-- is split under the last and not under the first
+abbrev pub TrainingIsBounded : Type 0
+TrainingIsBounded =
+    (settings : Settings) (zones : List Zone) (first some all : List Address)
+    → ((c : Address) → is_among first c ≡ true → is_among some c ≡ true) → ((c : Address) → is_among some c ≡ true → is_among all c ≡ true)
+    → rows_with settings zones some + 5 * splits_with settings zones first ≤ rows_with settings zones first + 5 * splits_with settings zones all

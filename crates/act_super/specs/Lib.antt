@@ -2,6 +2,7 @@ pub mod Shapes
 pub mod Places
 pub mod Grounds
 pub mod Trees
+pub mod NodeParts
 pub mod Packs
 pub mod Parts
 pub mod Shifts

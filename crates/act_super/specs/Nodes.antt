@@ -1,12 +1,12 @@
 -- The trie nodes of a state: one at the root, and one at each split cell of level 4, 8, .., 24.
-use Rattle.std.specs.Prelude.{◌≡◌, ◌⊎◌, ℕ, zero, suc, ◌+◌, ◌-◌, ◌*◌, ◌%◌, ◌==◌, Bool, true, cond, not, nat_lt, List, [], ◌∷◌, ◌++◌, length, filter}
+use Rattle.std.specs.Prelude.{◌≡◌, ◌⊎◌, ℕ, zero, suc, ◌+◌, ◌-◌, ◌*◌, ◌%◌, ◌==◌, Bool, true, cond, nat_lt, List, [], ◌∷◌, ◌++◌, length}
 use Rattle.act_grid.specs.declared.Settings.{Settings}
 use Rattle.act_grid.specs.Cell.{Address, IsCell, root_cell, child_of, hull_of}
 use Rattle.act_super.specs.declared.entry.State.{State}
 use Rattle.act_super.specs.declared.entry.Zone.{Zone}
 use Rattle.act_super.specs.declared.pack.Pack.{Pack}
 use Rattle.act_super.specs.Grounds.{Ground, leaf_at, same_cell, some_asks, zone_ground}
-use Rattle.act_super.specs.Trees.{leaves_within}
+use Rattle.act_super.specs.NodeParts.{leaves_near, splits_near}
 use Rattle.act_super.specs.Packs.{empty_pack, list_words, put_leaf}
 use Rattle.act_super.specs.Sizes.{refs_of}
 
@@ -46,9 +46,12 @@ nodes_of settings state =
 abbrev pub entry_cell : Address → ℕ → Address
 entry_cell c entry = record { level = c.level + 4; path = c.path * 256 + entry }
 
--- the leaves that belong to a node, in Z order: those within four levels of it
-unfoldable pub node_leaves : Settings → State → Address → List Address
-node_leaves settings state c = filter (λ d. not (is_parted settings state d)) (leaves_within (ground_of settings state) 4 state.zones c)
+-- the leaves that belong to a node, and the cells of its child nodes, in Z order
+abbrev pub node_leaves : Settings → State → Address → List Address
+node_leaves settings state c = leaves_near (ground_of settings state) 4 state.zones c
+
+abbrev pub node_children : Settings → State → Address → List Address
+node_children settings state c = splits_near (ground_of settings state) 4 state.zones c
 
 -- how many references a leaf has
 abbrev pub count_at : State → Address → ℕ

@@ -3,7 +3,9 @@
 ghost use Rattle.std.specs.Prelude.{◌≡◌, ◌+◌, ◌++◌, ◌≤◌, [], ◌∷◌, IfOk, None, true, false, drop, length, take};
 ghost use Rattle.act_cover.specs.Level.{level_of};
 ghost use Rattle.act_super.specs.Grounds.{leaf_at, zone_ground};
+ghost use Rattle.act_super.specs.NodeParts.{leaves_near, splits_near};
 ghost use Rattle.act_super.specs.Places.{zones_with};
+ghost use Rattle.act_super.specs.Nodes.{node_children, node_leaves};
 ghost use Rattle.act_super.specs.Sizes.{leaf_of, refs_of};
 ghost use Rattle.act_super.specs.Standings.{shapes_in};
 ghost use Rattle.act_super.specs.Training.{fit};
@@ -12,6 +14,7 @@ ghost use Rattle.act_super.specs.States.{IsFor, after, changed, has_key, reshape
 use crate::leaf::leaf_in;
 use crate::marks::Marks;
 use crate::next::{Change, Next};
+use crate::node::{Node, node_in};
 use crate::refs::{ZoneRef, ZoneRefs, push_ref, push_refs};
 use crate::search::place;
 use crate::standing::Standing;
@@ -43,6 +46,21 @@ impl Next {
             Change::Replace(key, zone) => state.refs_reshaped(alloc, *key, zone, cell)?,
         };
         Ok(ZoneRefs::from_vec(refs))
+    }
+
+    /// The leaves of a node of the state after the change, with the cells of its child nodes, in Z order.
+    pub fn node(&self, alloc: Global, state: &Super, cell: Cell) -> Result<Node, NoMemory>
+        requires prepared { IsFor state.now.settings state.now.state self.now }
+        requires level { cell.level ≤ 24 }
+        ensures leaves { IfOk result (λ node. node.leaves ≡ node_leaves state.now.settings (after state.now.settings state.now.state self.now.entry) cell) }
+        ensures children { IfOk result (λ node. node.children ≡ node_children state.now.settings (after state.now.settings state.now.state self.now.entry) cell) }
+    {
+        let node = match &self.change {
+            Change::Add(key, zone) => state.node_added(alloc, *key, zone, cell)?,
+            Change::DropZone(key) => state.node_dropped(alloc, *key, cell)?,
+            Change::Replace(key, zone) => state.node_reshaped(alloc, *key, zone, cell)?,
+        };
+        Ok(node)
     }
 }
 
@@ -128,6 +146,72 @@ impl Super {
             key,
             zone,
             at + 1,
+            cell,
+        )
+    }
+
+    fn node_added(
+        &self,
+        alloc: Global,
+        key: u32,
+        zone: &Standing,
+        cell: Cell,
+    ) -> Result<Node, AllocError>
+        requires free { has_key key self.now.state.zones ≡ false }
+        requires level { zone.now.level ≡ level_of zone.now.shape self.now.settings.cells }
+        requires deep { cell.level ≤ 24 }
+        ensures leaves { IfOk result (λ node. node.leaves ≡ leaves_near (zone_ground self.now.settings (fit self.now.settings (with_zone (record { key = key; shape = zone.now.shape }) self.now.state.zones) self.now.state.trained)) 4 (with_zone (record { key = key; shape = zone.now.shape }) self.now.state.zones) cell) }
+        ensures children { IfOk result (λ node. node.children ≡ splits_near (zone_ground self.now.settings (fit self.now.settings (with_zone (record { key = key; shape = zone.now.shape }) self.now.state.zones) self.now.state.trained)) 4 (with_zone (record { key = key; shape = zone.now.shape }) self.now.state.zones) cell) }
+    {
+        let Err(at) = place(&self.keys, key) else {
+            unreachable!()
+        };
+        node_in(
+            alloc,
+            &self.standings,
+            at,
+            Some(zone),
+            at,
+            &self.marks,
+            cell,
+        )
+    }
+
+    fn node_dropped(&self, alloc: Global, key: u32, cell: Cell) -> Result<Node, AllocError>
+        requires stands { has_key key self.now.state.zones ≡ true }
+        requires deep { cell.level ≤ 24 }
+        ensures leaves { IfOk result (λ node. node.leaves ≡ leaves_near (zone_ground self.now.settings (fit self.now.settings (without_key key self.now.state.zones) self.now.state.trained)) 4 (without_key key self.now.state.zones) cell) }
+        ensures children { IfOk result (λ node. node.children ≡ splits_near (zone_ground self.now.settings (fit self.now.settings (without_key key self.now.state.zones) self.now.state.trained)) 4 (without_key key self.now.state.zones) cell) }
+    {
+        let Ok(at) = place(&self.keys, key) else {
+            unreachable!()
+        };
+        node_in(alloc, &self.standings, at, None, at + 1, &self.marks, cell)
+    }
+
+    fn node_reshaped(
+        &self,
+        alloc: Global,
+        key: u32,
+        zone: &Standing,
+        cell: Cell,
+    ) -> Result<Node, AllocError>
+        requires stands { has_key key self.now.state.zones ≡ true }
+        requires level { zone.now.level ≡ level_of zone.now.shape self.now.settings.cells }
+        requires deep { cell.level ≤ 24 }
+        ensures leaves { IfOk result (λ node. node.leaves ≡ leaves_near (zone_ground self.now.settings (fit self.now.settings (reshaped key zone.now.shape self.now.state.zones) self.now.state.trained)) 4 (reshaped key zone.now.shape self.now.state.zones) cell) }
+        ensures children { IfOk result (λ node. node.children ≡ splits_near (zone_ground self.now.settings (fit self.now.settings (reshaped key zone.now.shape self.now.state.zones) self.now.state.trained)) 4 (reshaped key zone.now.shape self.now.state.zones) cell) }
+    {
+        let Ok(at) = place(&self.keys, key) else {
+            unreachable!()
+        };
+        node_in(
+            alloc,
+            &self.standings,
+            at,
+            Some(zone),
+            at + 1,
+            &self.marks,
             cell,
         )
     }

@@ -35,6 +35,13 @@ impl Marks {
         }
     }
 
+    /// The cells, for reading.
+    pub fn as_slice(&self) -> &[Cell]
+        ensures { result.now ≡ self.now }
+    {
+        &self.cells
+    }
+
     /// Whether the cell is trained.
     pub fn has(&self, cell: Cell) -> bool
         ensures { result ≡ is_among self.now cell }

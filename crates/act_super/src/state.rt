@@ -6,6 +6,7 @@ ghost use Rattle.act_super.specs.declared.verdict.Verdict.TheVariants.{NoMemory 
 use crate::leaf::leaf_in;
 use crate::marks::Marks;
 use crate::next::{Change, Next};
+use crate::node::{Node, node_in};
 use crate::refs::{ZoneRefs, push_refs};
 use crate::room::room_in;
 use crate::same::same;
@@ -61,6 +62,7 @@ impl Super {
     ghost use Rattle.std.specs.Prelude.{◌≡◌, ◌⊎◌, ◌<◌, ◌≤◌, IfOk, IfErr, Some, length, slice_index_or, slice_get};
     ghost use Rattle.act_cover.specs.Level.{level_of};
     ghost use Rattle.act_geom.specs.Inside.{is_inside};
+    ghost use Rattle.act_super.specs.Nodes.{node_children, node_leaves};
     ghost use Rattle.act_super.specs.Sizes.{leaf_of, refs_of, size_of};
     ghost use Rattle.act_super.specs.States.{IsFor, after, needs, nothing, verdict_of, zone_key_at, zone_shape_at};
     ghost use Rattle.act_super.specs.declared.entry.Entry.TheVariants.{Add, DropZone, Replace};
@@ -288,6 +290,25 @@ impl Super {
         let mut refs = Vec::new(alloc);
         push_refs(&mut refs, &self.keys, &self.standings, cell)?;
         Ok(ZoneRefs::from_vec(refs))
+    }
+
+    /// The leaves of a node with the cells of its child nodes, in Z order. A node belongs to each reached split cell of
+    /// level 0, 4, .., 24, and to the root. It looks at all zones once, and then at those on each cell of the node.
+    pub fn node(&self, alloc: Global, cell: Cell) -> Result<Node, NoMemory>
+        requires { cell.level ≤ 24 }
+        ensures leaves { IfOk result (λ node. node.leaves ≡ node_leaves self.now.settings self.now.state cell) }
+        ensures children { IfOk result (λ node. node.children ≡ node_children self.now.settings self.now.state cell) }
+    {
+        let last = self.standings.len();
+        let node = node_in(alloc, &self.standings, last, None, last, &self.marks, cell)?;
+        Ok(node)
+    }
+
+    /// The trained cells, in the order of their training.
+    pub fn trained(&self) -> &[Cell]
+        ensures { result.now ≡ self.now.state.trained }
+    {
+        self.marks.as_slice()
     }
 
     /// How many zones stand.

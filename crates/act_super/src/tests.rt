@@ -6,14 +6,15 @@ use act_grid::{Cell, Point, Settings};
 use std::alloc::Global;
 use std::test::Fail;
 
-fn square(alloc: Global, x: i32, y: i32, side: i32) -> Result<Shape, Fail> {
+/// The square with these corners.
+fn square(alloc: Global, low: (i32, i32), high: (i32, i32)) -> Result<Shape, Fail> {
     let mut shape = Shape::new(alloc);
     let at = |x, y| Point { x, y };
     let ring = [
-        at(x, y),
-        at(x.saturating_add(side), y),
-        at(x.saturating_add(side), y.saturating_add(side)),
-        at(x, y.saturating_add(side)),
+        at(low.0, low.1),
+        at(high.0, low.1),
+        at(high.0, high.1),
+        at(low.0, high.1),
     ];
     shape.push_ring(&ring)?;
     Ok(shape)
@@ -50,7 +51,10 @@ fn zones_stand_by_key(rt: HostRuntime) -> Result<(), Fail> {
     let alloc = rt.alloc();
     let mut state = empty(alloc, 16_384, 64)?;
     for key in [7, 2, 9, 4] {
-        assert_eq!(rt; add(&mut state, alloc, key, square(alloc, 0, 0, 5)?), None);
+        assert_eq!(rt;
+            add(&mut state, alloc, key, square(alloc, (0, 0), (5, 5))?),
+            None
+        );
     }
     assert_eq!(rt; drop_zone(&mut state, alloc, 4), None);
     assert_eq!(rt; state.zones(), 3);
@@ -65,17 +69,22 @@ fn zones_stand_by_key(rt: HostRuntime) -> Result<(), Fail> {
 fn updates_are_turned_away(rt: HostRuntime) -> Result<(), Fail> {
     let alloc = rt.alloc();
     let mut state = empty(alloc, 16_384, 64)?;
-    assert_eq!(rt; add(&mut state, alloc, 7, square(alloc, 0, 0, 10)?), None);
-    let twice = state.prepare_add(alloc, 7, square(alloc, 0, 0, 5)?).err();
+    assert_eq!(rt;
+        add(&mut state, alloc, 7, square(alloc, (0, 0), (10, 10))?),
+        None
+    );
+    let twice = state
+        .prepare_add(alloc, 7, square(alloc, (0, 0), (5, 5))?)
+        .err();
     let twice = twice.ok_or("accepted")?;
     assert_eq!(rt;
         (twice.why, twice.shape.vertices()),
         (Verdict::Duplicate, 4)
     );
     assert_eq!(rt; drop_zone(&mut state, alloc, 9), Some(Verdict::Unknown));
-    let absent = state.prepare_replace(alloc, 9, square(alloc, 0, 0, 5)?);
+    let absent = state.prepare_replace(alloc, 9, square(alloc, (0, 0), (5, 5))?);
     assert_eq!(rt; absent.err().ok_or("accepted")?.why, Verdict::Unknown);
-    let same = state.prepare_replace(alloc, 7, square(alloc, 0, 0, 10)?);
+    let same = state.prepare_replace(alloc, 7, square(alloc, (0, 0), (10, 10))?);
     assert_eq!(rt; same.err().ok_or("accepted")?.why, Verdict::Same);
     Ok(())
 }
@@ -84,14 +93,17 @@ fn updates_are_turned_away(rt: HostRuntime) -> Result<(), Fail> {
 fn changes_tell_what_they_change(rt: HostRuntime) -> Result<(), Fail> {
     let alloc = rt.alloc();
     let mut state = empty(alloc, 16_384, 64)?;
-    assert_eq!(rt; add(&mut state, alloc, 7, square(alloc, 0, 0, 10)?), None);
-    let Ok(next) = state.prepare_replace(alloc, 7, square(alloc, 0, 0, 5)?) else {
+    assert_eq!(rt;
+        add(&mut state, alloc, 7, square(alloc, (0, 0), (10, 10))?),
+        None
+    );
+    let Ok(next) = state.prepare_replace(alloc, 7, square(alloc, (0, 0), (5, 5))?) else {
         return Err("turned away".into());
     };
     assert_eq!(rt; (next.key(), next.size()), (Some(7), 8));
     assert!(rt; next.shape().is_some());
     state.commit(next);
-    let Ok(next) = state.prepare_add(alloc, 8, square(alloc, 0, 0, 5)?) else {
+    let Ok(next) = state.prepare_add(alloc, 8, square(alloc, (0, 0), (5, 5))?) else {
         return Err("turned away".into());
     };
     assert!(rt; next.into_shape().is_some());
@@ -105,13 +117,26 @@ fn rows_are_counted(rt: HostRuntime) -> Result<(), Fail> {
     let alloc = rt.alloc();
     let mut state = empty(alloc, 8, 64)?;
     assert_eq!(rt; state.size(), 1);
-    assert_eq!(rt; add(&mut state, alloc, 7, square(alloc, 0, 0, 10)?), None);
+    assert_eq!(rt;
+        add(&mut state, alloc, 7, square(alloc, (0, 0), (10, 10))?),
+        None
+    );
     assert_eq!(rt; state.size(), 8);
-    let turned = add(&mut state, alloc, 2, square(alloc, -1008, -1008, 10)?);
+    let turned = add(
+        &mut state,
+        alloc,
+        2,
+        square(alloc, (-1008, -1008), (-998, -998))?,
+    );
     assert_eq!(rt; turned, Some(Verdict::Rows { need: 15, limit: 8 }));
     assert_eq!(rt; drop_zone(&mut state, alloc, 7), None);
     assert_eq!(rt;
-        add(&mut state, alloc, 2, square(alloc, -1008, -1008, 10)?),
+        add(
+            &mut state,
+            alloc,
+            2,
+            square(alloc, (-1008, -1008), (-998, -998))?
+        ),
         None
     );
     assert_eq!(rt; state.size(), 8);
@@ -125,13 +150,21 @@ fn leaves_have_references(rt: HostRuntime) -> Result<(), Fail> {
     let mut state = empty(alloc, 16_384, 64)?;
     let origin = Point { x: 0, y: 0 };
     assert_eq!(rt; state.leaf(origin), Cell::root());
-    assert_eq!(rt; add(&mut state, alloc, 7, square(alloc, 0, 0, 10)?), None);
+    assert_eq!(rt;
+        add(&mut state, alloc, 7, square(alloc, (0, 0), (10, 10))?),
+        None
+    );
     let leaf = state.leaf(origin);
     assert_eq!(rt; (leaf.level(), leaf.id()), (28, 1_729_382_256_910_270_480));
     let refs = state.refs(alloc, leaf)?;
     assert_eq!(rt;
         refs.as_slice(),
         [ZoneRef { key: 7, hit: false }].as_slice()
+    );
+    let node = state.node(alloc, Cell::root())?;
+    assert_eq!(rt;
+        (node.leaves.as_slice().len(), node.children.as_slice().len()),
+        (12, 1)
     );
     let far = state.leaf(Point { x: -1, y: -1 });
     assert!(rt; state.refs(alloc, far)?.as_slice().is_empty());
@@ -151,12 +184,12 @@ fn references_are_counted(rt: HostRuntime) -> Result<(), Fail> {
     let mut state = empty(alloc, 16_384, 1)?;
     for key in 0..510 {
         assert_eq!(rt;
-            add(&mut state, alloc, key, square(alloc, -5, -5, 10)?),
+            add(&mut state, alloc, key, square(alloc, (-5, -5), (5, 5))?),
             None
         );
     }
     assert_eq!(rt; state.size(), 512);
-    let turned = add(&mut state, alloc, 510, square(alloc, -5, -5, 10)?);
+    let turned = add(&mut state, alloc, 510, square(alloc, (-5, -5), (5, 5))?);
     assert_eq!(rt; turned, Some(Verdict::Refs { need: 511 }));
     Ok(())
 }
