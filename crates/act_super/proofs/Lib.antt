@@ -5,6 +5,7 @@ pub mod FitFacts
 pub mod TreeFacts
 pub mod UnderFacts
 pub mod FrameFacts
+pub mod AroundFacts
 pub mod NarrowFacts
 pub mod RowFacts
 pub mod StandingFacts

@@ -1,5 +1,5 @@
 -- Boxes around shapes.
-use Rattle.std.specs.Prelude.{◌≤ℤ◌, Bool, ◌||◌, int_lt, List, All}
+use Rattle.std.specs.Prelude.{◌≤ℤ◌, Bool, ◌&&◌, ◌||◌, int_le, int_lt, List, All}
 use Rattle.act_grid.specs.declared.Point.{Point}
 use Rattle.act_grid.specs.declared.Hull.{Hull}
 use Rattle.act_grid.specs.Hull.{IsIn}
@@ -18,3 +18,7 @@ pub record IsWider (f g : Hull) : Type 0 where
 -- the boxes share no point
 abbrev pub is_apart : Hull → Hull → Bool
 is_apart f h = (int_lt f.hi.x h.lo.x || int_lt h.hi.x f.lo.x) || (int_lt f.hi.y h.lo.y || int_lt h.hi.y f.lo.y)
+
+-- each corner of the second box lies in the first
+abbrev pub is_around : Hull → Hull → Bool
+is_around h f = (int_le h.lo.x f.lo.x && int_le f.hi.x h.hi.x) && (int_le h.lo.y f.lo.y && int_le f.hi.y h.hi.y)

@@ -2,7 +2,7 @@
 
 ghost use Rattle.std.specs.Prelude.{◌≡◌, All};
 ghost use Rattle.act_grid.specs.Hull.{IsIn};
-ghost use Rattle.act_super.specs.Frames.{IsFrame, IsWider, is_apart};
+ghost use Rattle.act_super.specs.Frames.{IsFrame, IsWider, is_apart, is_around};
 
 use act_geom::Shape;
 use act_grid::{Hull, Point};
@@ -62,4 +62,14 @@ pub(crate) fn is_apart(frame: Hull, hull: Hull) -> bool
     let beside = (frame.hi.x < hull.lo.x) | (hull.hi.x < frame.lo.x);
     let above = (frame.hi.y < hull.lo.y) | (hull.hi.y < frame.lo.y);
     beside | above
+}
+
+/// Whether the first box holds each corner of the second one.
+#[inline]
+pub(crate) fn is_around(hull: Hull, frame: Hull) -> bool
+    ensures { result ≡ is_around hull frame }
+{
+    let wide = (hull.lo.x <= frame.lo.x) & (frame.hi.x <= hull.hi.x);
+    let tall = (hull.lo.y <= frame.lo.y) & (frame.hi.y <= hull.hi.y);
+    wide & tall
 }

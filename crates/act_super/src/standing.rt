@@ -7,7 +7,7 @@ ghost use Rattle.act_cover.specs.Covering.{class_at};
 ghost use Rattle.act_cover.specs.Level.{level_of};
 ghost use Rattle.act_super.specs.Frames.{IsFrame};
 
-use crate::frame::{frame_of, is_apart};
+use crate::frame::{frame_of, is_apart, is_around};
 use act_cover::cover_level;
 use act_geom::{Class, Shape, class_of, inside};
 use act_grid::{Cell, Hull, Point};
@@ -38,14 +38,18 @@ impl Standing {
         }
     }
 
-    /// How the shape lies on the cell, whose hull is given. A cell apart from the box takes constant time, and any
-    /// other one a look at each edge at most twice.
+    /// How the shape lies on the cell, whose hull is given. A cell apart from the box or around it takes constant time,
+    /// and any other one a look at each edge at most twice.
+    #[inline]
     pub fn class_on(&self, cell: Cell, hull: Hull) -> Class
         requires { hull ≡ hull_of cell }
         ensures { result ≡ class_at self.now.shape cell }
     {
         if is_apart(self.frame, hull) {
             return Class::Outside;
+        }
+        if is_around(hull, self.frame) && self.shape.vertices() > 0 {
+            return Class::Mixed;
         }
         class_of(&self.shape, cell)
     }
