@@ -34,7 +34,7 @@ pub(crate) fn part_on<'a>(
     let hull = cell.hull();
     let level = cell.level();
     let marked = marks.has(cell);
-    let mut found = Vec::new(alloc);
+    let mut found = Vec::with_capacity(alloc, zones.len())?;
     let mut asked = false;
     for zone in zones {
         let class = zone.class_on(cell, hull);

@@ -13,7 +13,7 @@ use Rattle.act_super.proofs.narrow.part_on.Goals as goal
 use Rattle.act_super.proofs.narrow.part_on.Goals.{then-is_on+in_ok-push, else-is_on}
 
 pub loop-zone-init : goal.loop-zone-init
-loop-zone-init c = (ap values c.new-found.ensures.items, refl)
+loop-zone-init c = (ap values c.in_ok-found.ensures.items, refl)
 
 pub loop-zone-preserved : goal.loop-zone-preserved
 loop-zone-preserved c =
