@@ -24,3 +24,7 @@ pub mod PackFacts
 pub mod GrowFacts
 pub mod TrainFacts
 pub mod NodeFacts
+pub mod SpanFacts
+pub mod OrderFacts
+pub mod ChoiceFacts
+pub mod ChosenFacts

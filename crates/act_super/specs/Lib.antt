@@ -8,6 +8,7 @@ pub mod Parts
 pub mod Shifts
 pub mod Sizes
 pub mod Training
+pub mod Choices
 pub mod Frames
 pub mod Standings
 pub mod States

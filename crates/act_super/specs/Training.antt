@@ -3,10 +3,9 @@ use Rattle.std.specs.Prelude.{ℕ, ◌*◌, ◌==◌, ◌&&◌, ◌||◌, ◌++�
 use Rattle.act_grid.specs.declared.Point.{Point}
 use Rattle.act_grid.specs.declared.Settings.{Settings}
 use Rattle.act_grid.specs.Cell.{Address, hull_of, id_of}
-use Rattle.act_cover.specs.Covering.{class_at}
 use Rattle.act_super.specs.declared.entry.Zone.{Zone}
 use Rattle.act_super.specs.declared.entry.State.{State}
-use Rattle.act_super.specs.Grounds.{is_mixed, zone_ground}
+use Rattle.act_super.specs.Grounds.{Ground, is_mixed, zone_ground}
 use Rattle.act_super.specs.Sizes.{rows_with}
 use Rattle.act_super.specs.Trees.{leaves_of}
 
@@ -16,30 +15,32 @@ holds c p =
     let h = hull_of c in
     (int_le h.lo.x p.x && int_le p.x h.hi.x) && (int_le h.lo.y p.y && int_le p.y h.hi.y)
 
--- the cost of a leaf for a sample: its sample points, times the zones that are Mixed on it
-unfoldable pub cost_of : List Zone → List Point → Address → ℕ
-cost_of zones sample c = count_by (holds c) sample * count_by (λ zone. is_mixed (class_at zone.shape c)) zones
+-- the cost of a leaf for a sample: its sample points, times the items that are Mixed on it
+unfoldable pub cost_of : {X : Type 0} → Ground X → List X → List Point → Address → ℕ
+cost_of g items sample c = count_by (holds c) sample * count_by (λ x. is_mixed (g.class x c)) items
 
 -- the greater cost comes first, and at equal costs the smaller id
-abbrev pub is_first : List Zone → List Point → Address → Address → Bool
-is_first zones sample c d =
-    nat_lt (cost_of zones sample d) (cost_of zones sample c)
-    || (cost_of zones sample c == cost_of zones sample d && nat_lt (id_of c) (id_of d))
+abbrev pub is_first : (Address → ℕ) → Address → Address → Bool
+is_first cost c d = nat_lt (cost d) (cost c) || (cost c == cost d && nat_lt (id_of c) (id_of d))
 
 -- the cells in this order, with one more
-abbrev pub with_cell : List Zone → List Point → Address → List Address → List Address
-with_cell zones sample c [] = c ∷ []
-with_cell zones sample c (d ∷ cells) = if is_first zones sample c d then c ∷ d ∷ cells else d ∷ with_cell zones sample c cells
+abbrev pub with_cell : (Address → ℕ) → Address → List Address → List Address
+with_cell cost c [] = c ∷ []
+with_cell cost c (d ∷ cells) = if is_first cost c d then c ∷ d ∷ cells else d ∷ with_cell cost c cells
 
-abbrev pub in_order : List Zone → List Point → List Address → List Address
-in_order zones sample [] = []
-in_order zones sample (c ∷ cells) = with_cell zones sample c (in_order zones sample cells)
+abbrev pub in_order : (Address → ℕ) → List Address → List Address
+in_order cost [] = []
+in_order cost (c ∷ cells) = with_cell cost c (in_order cost cells)
 
 -- the leaves above level 28 whose cost is at least the threshold, in this order
+unfoldable pub chosen_among : {X : Type 0} → Ground X → List X → List Point → ℕ → List Address
+chosen_among g items sample threshold =
+    let cost = cost_of g items sample in
+    in_order cost (filter (λ c. nat_lt c.level 28 && nat_le threshold (cost c)) (leaves_of g items))
+
+-- those of a state
 unfoldable pub chosen_of : Settings → State → List Point → ℕ → List Address
-chosen_of settings state sample threshold =
-    in_order state.zones sample
-    (filter (λ c. nat_lt c.level 28 && nat_le threshold (cost_of state.zones sample c)) (leaves_of (zone_ground settings state.trained) state.zones))
+chosen_of settings state sample threshold = chosen_among (zone_ground settings state.trained) state.zones sample threshold
 
 -- how many cells may be trained
 abbrev pub most_trained : ℕ

@@ -23,6 +23,7 @@
 
 mod after;
 mod both;
+mod chosen;
 mod entry;
 mod frame;
 mod gather;

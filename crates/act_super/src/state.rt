@@ -3,6 +3,7 @@
 ghost use Rattle.std.specs.Prelude.{◌≡◌};
 ghost use Rattle.act_super.specs.declared.verdict.Verdict.TheVariants.{NoMemory as Unfed};
 
+use crate::chosen::chosen_in;
 use crate::leaf::leaf_in;
 use crate::marks::Marks;
 use crate::next::{Change, Next};
@@ -13,6 +14,7 @@ use crate::same::same;
 use crate::search::place;
 use crate::standing::Standing;
 use crate::verdict::{TurnedAdd, Verdict};
+use act_cover::Cells;
 use act_geom::Shape;
 use act_grid::{Cell, NoMemory, Point, Settings};
 use std::alloc::Global;
@@ -65,6 +67,7 @@ impl Super {
     ghost use Rattle.act_super.specs.Nodes.{node_children, node_leaves};
     ghost use Rattle.act_super.specs.Sizes.{leaf_of, refs_of, size_of};
     ghost use Rattle.act_super.specs.States.{IsFor, after, needs, nothing, verdict_of, zone_key_at, zone_shape_at};
+    ghost use Rattle.act_super.specs.Training.{chosen_of};
     ghost use Rattle.act_super.specs.declared.entry.Entry.TheVariants.{Add, DropZone, Replace};
 
     /// No zones under these settings.
@@ -302,6 +305,18 @@ impl Super {
         let last = self.standings.len();
         let node = node_in(alloc, &self.standings, last, None, last, &self.marks, cell)?;
         Ok(node)
+    }
+
+    /// The cells that a training with the sample chooses: the leaves above level 28 whose cost, their sample points times
+    /// the zones that are Mixed on them, is at least the threshold, by descending cost and then by ascending id. It sorts
+    /// the sample, looks at all zones once, and then at those on each reached cell that holds a sample point.
+    pub fn chosen(&self, alloc: Global, sample: &[Point], threshold: u32) -> Result<Cells, NoMemory>
+        requires threshold { 1 ≤ threshold }
+        requires few { length sample.now ≤ 65536 }
+        ensures { IfOk result (λ cells. cells ≡ chosen_of self.now.settings self.now.state sample.now threshold) }
+    {
+        let cells = chosen_in(alloc, &self.standings, &self.marks, sample, threshold)?;
+        Ok(Cells::from_vec(cells))
     }
 
     /// The trained cells, in the order of their training.

@@ -1,5 +1,7 @@
 //! Worked updates: zones that come, go and change, and updates that are turned away.
 
+ghost use Rattle.std.specs.Prelude.{◌≤◌, length};
+
 use crate::{Super, Verdict, ZoneRef};
 use act_geom::Shape;
 use act_grid::{Cell, Point, Settings};
@@ -191,5 +193,80 @@ fn references_are_counted(rt: HostRuntime) -> Result<(), Fail> {
     assert_eq!(rt; state.size(), 512);
     let turned = add(&mut state, alloc, 510, square(alloc, (-5, -5), (5, 5))?);
     assert_eq!(rt; turned, Some(Verdict::Refs { need: 511 }));
+    Ok(())
+}
+
+/// The ids of the cells that a training with the sample chooses.
+fn chosen_ids(
+    state: &Super,
+    alloc: Global,
+    sample: &[Point],
+    threshold: u32,
+) -> Result<Vec<u64>, Fail>
+    requires threshold { 1 ≤ threshold }
+    requires few { length sample.now ≤ 65536 }
+{
+    let cells = state.chosen(alloc, sample, threshold)?;
+    let mut ids = Vec::new(alloc);
+    for cell in cells.as_slice() {
+        ids.push(cell.id())?;
+    }
+    Ok(ids)
+}
+
+/// A leaf of level 28, which is never chosen, and the four leaves of a larger square: they hold one, one, two and three
+/// points, in ascending order of their ids.
+#[test]
+fn cells_are_chosen_by_cost(rt: HostRuntime) -> Result<(), Fail> {
+    let alloc = rt.alloc();
+    let mut state = empty(alloc, 16_384, 64)?;
+    let small = square(alloc, (0, 0), (10, 10))?;
+    assert_eq!(rt; add(&mut state, alloc, 7, small), None);
+    let origins = [Point { x: 0, y: 0 }; 5];
+    assert!(rt; chosen_ids(&state, alloc, &origins, 1)?.is_empty());
+
+    let mut state = empty(alloc, 16_384, 4)?;
+    let at = |x, y| Point { x, y };
+    let sample = [
+        at(600, 600),
+        at(10, 10),
+        at(-5, -5),
+        at(10, 600),
+        at(999, 999),
+        at(-5, 7),
+        at(600, 10),
+        at(10, 1023),
+        at(512, 512),
+        at(-5, -5),
+    ];
+    assert!(rt; chosen_ids(&state, alloc, &sample, 1)?.is_empty());
+    let large = square(alloc, (0, 0), (1000, 1000))?;
+    assert_eq!(rt; add(&mut state, alloc, 7, large), None);
+    let by_cost = [
+        1_729_382_256_910_385_152,
+        1_729_382_256_910_352_384,
+        1_729_382_256_910_286_848,
+        1_729_382_256_910_319_616,
+    ];
+    assert_eq!(rt;
+        chosen_ids(&state, alloc, &sample, 1)?.as_slice(),
+        by_cost.as_slice()
+    );
+    assert_eq!(rt;
+        chosen_ids(&state, alloc, &sample, 2)?.as_slice(),
+        &by_cost[..2]
+    );
+    assert_eq!(rt;
+        chosen_ids(&state, alloc, &sample, 3)?.as_slice(),
+        &by_cost[..1]
+    );
+    assert!(rt; chosen_ids(&state, alloc, &sample, 4)?.is_empty());
+
+    let same = square(alloc, (0, 0), (1000, 1000))?;
+    assert_eq!(rt; add(&mut state, alloc, 8, same), None);
+    assert_eq!(rt;
+        chosen_ids(&state, alloc, &sample, 4)?.as_slice(),
+        &by_cost[..2]
+    );
     Ok(())
 }
