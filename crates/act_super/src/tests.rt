@@ -196,77 +196,81 @@ fn references_are_counted(rt: HostRuntime) -> Result<(), Fail> {
     Ok(())
 }
 
-/// The ids of the cells that a training with the sample chooses.
-fn chosen_ids(
+/// Points in the four leaves of a square, one, one, two and three by ascending id, and three outside of it.
+const PLACES: [Point; 10] = [
+    Point { x: 600, y: 600 },
+    Point { x: 10, y: 10 },
+    Point { x: -5, y: -5 },
+    Point { x: 10, y: 600 },
+    Point { x: 999, y: 999 },
+    Point { x: -5, y: 7 },
+    Point { x: 600, y: 10 },
+    Point { x: 10, y: 1023 },
+    Point { x: 512, y: 512 },
+    Point { x: -5, y: -5 },
+];
+
+/// The ids of these leaves in the order of training.
+const BY_COST: [u64; 4] = [
+    1_729_382_256_910_385_152,
+    1_729_382_256_910_352_384,
+    1_729_382_256_910_286_848,
+    1_729_382_256_910_319_616,
+];
+
+/// Whether training with the sample chooses just the cells with these ids.
+fn chooses(
     state: &Super,
     alloc: Global,
     sample: &[Point],
     threshold: u32,
-) -> Result<Vec<u64>, Fail>
+    ids: &[u64],
+) -> Result<bool, Fail>
     requires threshold { 1 ≤ threshold }
     requires few { length sample.now ≤ 65536 }
 {
     let cells = state.chosen(alloc, sample, threshold)?;
-    let mut ids = Vec::new(alloc);
+    let mut found = Vec::new(alloc);
     for cell in cells.as_slice() {
-        ids.push(cell.id())?;
+        found.push(cell.id())?;
     }
-    Ok(ids)
+    Ok(found.as_slice() == ids)
 }
 
-/// A leaf of level 28, which is never chosen, and the four leaves of a larger square: they hold one, one, two and three
-/// points, in ascending order of their ids.
 #[test]
-fn cells_are_chosen_by_cost(rt: HostRuntime) -> Result<(), Fail> {
+fn deepest_leaves_are_not_chosen(rt: HostRuntime) -> Result<(), Fail> {
     let alloc = rt.alloc();
     let mut state = empty(alloc, 16_384, 64)?;
     let small = square(alloc, (0, 0), (10, 10))?;
     assert_eq!(rt; add(&mut state, alloc, 7, small), None);
-    let origins = [Point { x: 0, y: 0 }; 5];
-    assert!(rt; chosen_ids(&state, alloc, &origins, 1)?.is_empty());
+    assert!(rt; chooses(&state, alloc, &[Point { x: 0, y: 0 }; 5], 1, &[])?);
+    Ok(())
+}
 
+#[test]
+fn cells_are_chosen_by_cost(rt: HostRuntime) -> Result<(), Fail> {
+    let alloc = rt.alloc();
     let mut state = empty(alloc, 16_384, 4)?;
-    let at = |x, y| Point { x, y };
-    let sample = [
-        at(600, 600),
-        at(10, 10),
-        at(-5, -5),
-        at(10, 600),
-        at(999, 999),
-        at(-5, 7),
-        at(600, 10),
-        at(10, 1023),
-        at(512, 512),
-        at(-5, -5),
-    ];
-    assert!(rt; chosen_ids(&state, alloc, &sample, 1)?.is_empty());
+    assert!(rt; chooses(&state, alloc, &PLACES, 1, &[])?);
     let large = square(alloc, (0, 0), (1000, 1000))?;
     assert_eq!(rt; add(&mut state, alloc, 7, large), None);
-    let by_cost = [
-        1_729_382_256_910_385_152,
-        1_729_382_256_910_352_384,
-        1_729_382_256_910_286_848,
-        1_729_382_256_910_319_616,
-    ];
-    assert_eq!(rt;
-        chosen_ids(&state, alloc, &sample, 1)?.as_slice(),
-        by_cost.as_slice()
-    );
-    assert_eq!(rt;
-        chosen_ids(&state, alloc, &sample, 2)?.as_slice(),
-        &by_cost[..2]
-    );
-    assert_eq!(rt;
-        chosen_ids(&state, alloc, &sample, 3)?.as_slice(),
-        &by_cost[..1]
-    );
-    assert!(rt; chosen_ids(&state, alloc, &sample, 4)?.is_empty());
+    assert!(rt; chooses(&state, alloc, &PLACES, 1, &BY_COST)?);
+    assert!(rt; chooses(&state, alloc, &PLACES, 2, &BY_COST[..2])?);
+    assert!(rt; chooses(&state, alloc, &PLACES, 4, &[])?);
+    Ok(())
+}
 
-    let same = square(alloc, (0, 0), (1000, 1000))?;
-    assert_eq!(rt; add(&mut state, alloc, 8, same), None);
-    assert_eq!(rt;
-        chosen_ids(&state, alloc, &sample, 4)?.as_slice(),
-        &by_cost[..2]
-    );
+/// Two zones on the same leaves, each of which costs twice as much then.
+#[test]
+fn each_mixed_zone_costs(rt: HostRuntime) -> Result<(), Fail> {
+    let alloc = rt.alloc();
+    let mut state = empty(alloc, 16_384, 4)?;
+    for key in [7, 8] {
+        let large = square(alloc, (0, 0), (1000, 1000))?;
+        assert_eq!(rt; add(&mut state, alloc, key, large), None);
+    }
+    assert!(rt; chooses(&state, alloc, &PLACES, 2, &BY_COST)?);
+    assert!(rt; chooses(&state, alloc, &PLACES, 4, &BY_COST[..2])?);
+    assert!(rt; chooses(&state, alloc, &PLACES, 6, &BY_COST[..1])?);
     Ok(())
 }
