@@ -2,6 +2,7 @@ pub mod Rising
 pub mod Keyed
 pub mod Sameness
 pub mod FitFacts
+pub mod MarkFacts
 pub mod TreeFacts
 pub mod UnderFacts
 pub mod FrameFacts
@@ -23,6 +24,8 @@ pub mod RoomFacts
 pub mod PackFacts
 pub mod GrowFacts
 pub mod TrainFacts
+pub mod CountFacts
+pub mod StepFacts
 pub mod NodeFacts
 pub mod SpanFacts
 pub mod OrderFacts

@@ -108,6 +108,10 @@ most_few g (suc n) items c =
     either true s t h k = h
     either false s t h k = k
 
+pub most_under_within : (trained : List Address) (standings : List Standing) → most (under (standing_ground trained) standings root_cell) ≤ length standings
+unfolding under
+most_under_within trained standings = most_few (standing_ground trained) 28 standings root_cell
+
 pub most_within : (standings : List Standing) → standing_most standings ≤ length standings
 unfolding standing_most under
 most_within standings = most_few (standing_ground []) 28 standings root_cell

@@ -22,27 +22,27 @@ use Rattle.act_super.proofs.TopFacts.{top_under}
 abbrev chain_of : Standing → ℕ
 chain_of s = chain_rows s.shape
 
-pub plain_rows : (xs : List Standing) → standing_rows [] xs ≡ node_rows (under (standing_ground []) xs root_cell) + sum_by chain_of xs
+pub parted_rows : (trained : List Address) (xs : List Standing) → standing_rows trained xs ≡ node_rows (under (standing_ground trained) xs root_cell) + sum_by chain_of xs
 unfolding standing_rows
-plain_rows xs = refl
+parted_rows trained xs = refl
 
 pub plain_most : (xs : List Standing) → standing_most xs ≡ most (under (standing_ground []) xs root_cell)
 unfolding standing_most
 plain_most xs = refl
 
-pub added_rows : (xs : List Standing) (z : Standing) → standing_rows [] (added xs z) ≡ node_rows (under (standing_ground []) (added xs z) root_cell) + (sum_by chain_of xs + chain_rows z.shape)
-added_rows xs z =
+pub added_rows : (trained : List Address) (xs : List Standing) (z : Standing) → standing_rows trained (added xs z) ≡ node_rows (under (standing_ground trained) (added xs z) root_cell) + (sum_by chain_of xs + chain_rows z.shape)
+added_rows trained xs z =
     let chains : sum_by chain_of (added xs z) ≡ sum_by chain_of xs + chain_rows z.shape = omega (arith, sum_by-append chain_of xs (z ∷ []), sum_by-cons chain_of z []) in
-    plain_rows (added xs z) ∙ ap (λ n. node_rows (under (standing_ground []) (added xs z) root_cell) + n) chains
+    parted_rows trained (added xs z) ∙ ap (λ n. node_rows (under (standing_ground trained) (added xs z) root_cell) + n) chains
 
 -- a zone at its place counts as one at the end
-rows_at_place : (before after : List Standing) (z : Standing) → standing_rows [] (before ++ (z ∷ after)) ≡ standing_rows [] (added (before ++ after) z)
-rows_at_place before after z =
-    let nodes = ap node_rows (under_at_place (standing_ground []) before after z root_cell) in
+rows_at_place : (trained : List Address) (before after : List Standing) (z : Standing) → standing_rows trained (before ++ (z ∷ after)) ≡ standing_rows trained (added (before ++ after) z)
+rows_at_place trained before after z =
+    let nodes = ap node_rows (under_at_place (standing_ground trained) before after z root_cell) in
     omega (
       arith,
-      plain_rows (before ++ (z ∷ after)),
-      added_rows (before ++ after) z,
+      parted_rows trained (before ++ (z ∷ after)),
+      added_rows trained (before ++ after) z,
       nodes,
       sum_by-append chain_of before (z ∷ after),
       sum_by-cons chain_of z after,
@@ -59,9 +59,9 @@ append_nil (x ∷ xs) = ap (λ r. x ∷ r) (append_nil xs)
 others_are : (xs : List Standing) (from to : ℕ) → joined xs from [] to ≡ take from xs ++ drop to xs
 others_are xs from to = ap (λ r. r ++ drop to xs) (append_nil (take from xs))
 
-pub rows_joined : (xs : List Standing) (from to : ℕ) (z : Standing) → standing_rows [] (joined xs from (z ∷ []) to) ≡ standing_rows [] (added (joined xs from [] to) z)
-rows_joined xs from to z =
-    ap (standing_rows []) (append_assoc (take from xs) (z ∷ []) (drop to xs)) ∙ rows_at_place (take from xs) (drop to xs) z ∙ ap (λ r. standing_rows [] (added r z)) (sym (others_are xs from to))
+pub rows_joined : (trained : List Address) (xs : List Standing) (from to : ℕ) (z : Standing) → standing_rows trained (joined xs from (z ∷ []) to) ≡ standing_rows trained (added (joined xs from [] to) z)
+rows_joined trained xs from to z =
+    ap (standing_rows trained) (append_assoc (take from xs) (z ∷ []) (drop to xs)) ∙ rows_at_place trained (take from xs) (drop to xs) z ∙ ap (λ r. standing_rows trained (added r z)) (sym (others_are xs from to))
 
 pub most_joined : (xs : List Standing) (from to : ℕ) (z : Standing) → standing_most (joined xs from (z ∷ []) to) ≡ standing_most (added (joined xs from [] to) z)
 most_joined xs from to z =
@@ -76,8 +76,8 @@ whole_list xs i z less e = append_assoc (take i xs) (z ∷ []) (drop (i + 1) xs)
     parts (x ∷ xs) (suc i) less e = ap (λ ys. x ∷ ys) (parts xs i (omega arith) e)
 
 -- all zones are those but one, and that one
-pub rows_removed : (xs : List Standing) (i : ℕ) (z : Standing) → i < length xs → z ≡ get_or xs i z → standing_rows [] xs ≡ standing_rows [] (added (joined xs i [] (i + 1)) z)
-rows_removed xs i z less e = ap (standing_rows []) (sym (whole_list xs i z less e)) ∙ rows_joined xs i (i + 1) z
+pub rows_removed : (trained : List Address) (xs : List Standing) (i : ℕ) (z : Standing) → i < length xs → z ≡ get_or xs i z → standing_rows trained xs ≡ standing_rows trained (added (joined xs i [] (i + 1)) z)
+rows_removed trained xs i z less e = ap (standing_rows trained) (sym (whole_list xs i z less e)) ∙ rows_joined trained xs i (i + 1) z
 
 pub most_removed : (xs : List Standing) (i : ℕ) (z : Standing) → i < length xs → z ≡ get_or xs i z → standing_most xs ≡ standing_most (added (joined xs i [] (i + 1)) z)
 most_removed xs i z less e = ap standing_most (sym (whole_list xs i z less e)) ∙ most_joined xs i (i + 1) z
@@ -92,6 +92,9 @@ most_with old new p q s h k = record {
   below = λ below. omega (arith, h.with_high);
 }
 
+pub most_found : (found real : ℕ) → found ≡ real → IsMost found real
+most_found found real e = record { above = λ above. e; below = λ below. omega (arith, e) }
+
 pub most_without : (old new p q : ℕ) (s : Shift) → IsShift old new p q s → q ≤ reference_limit → IsMost s.without p
 most_without old new p q s h k = record {
   above = λ above. omega (arith, h.without_low, h.without_high);
@@ -100,32 +103,32 @@ most_without old new p q s h k = record {
 
 -- the shift that a descent from the root finds
 pub top_shift : (marks : List Address) (others here : List Standing) (z : Standing) (root : Address) (first last first' last' : Pack) (s : Shift)
-    → marks ≡ [] → root ≡ root_cell → here ≡ on (standing_ground marks) others root → is_on (class_at z.shape root) ≡ true → first ≡ empty_pack → first' ≡ empty_pack
+    → root ≡ root_cell → here ≡ on (standing_ground marks) others root → is_on (class_at z.shape root) ≡ true → first ≡ empty_pack → first' ≡ empty_pack
     → last ≡ put_tree 4 first (under (standing_ground marks) here root) → last' ≡ put_tree 4 first' (under (standing_ground marks) (added here z) root)
     → IsShift (inner 4 (under (standing_ground marks) here root)) (inner 4 (under (standing_ground marks) (added here z) root)) (most (under (standing_ground marks) here root)) (most (under (standing_ground marks) (added here z) root)) s
-    → IsShift (node_rows (under (standing_ground []) others root_cell)) (node_rows (under (standing_ground []) (added others z) root_cell)) (most (under (standing_ground []) others root_cell)) (most (under (standing_ground []) (added others z) root_cell))
+    → IsShift (node_rows (under (standing_ground marks) others root_cell)) (node_rows (under (standing_ground marks) (added others z) root_cell)) (most (under (standing_ground marks) others root_cell)) (most (under (standing_ground marks) (added others z) root_cell))
     (record { less = last.rows + s.less; more = last'.rows + s.more; without = s.without; with = s.with })
-top_shift marks others here z root first last first' last' s m r h z_on e e' put put' shift =
+top_shift marks others here z root first last first' last' s r h z_on e e' put put' shift =
     let g = standing_ground marks in
-    let old : under (standing_ground []) others root_cell ≡ under g here root = ap (λ cells. under (standing_ground cells) others root_cell) (sym m) ∙ sym (top_under marks others here root r h) in
+    let old : under (standing_ground marks) others root_cell ≡ under g here root = sym (top_under marks others here root r h) in
     let more : added here z ≡ on g (added others z) root = ap (λ xs. added xs z) h ∙ sym (on_added g others z root z_on) in
-    let new : under (standing_ground []) (added others z) root_cell ≡ under g (added here z) root = ap (λ cells. under (standing_ground cells) (added others z) root_cell) (sym m) ∙ sym (top_under marks (added others z) (added here z) root r more) in
+    let new : under (standing_ground marks) (added others z) root_cell ≡ under g (added here z) root = sym (top_under marks (added others z) (added here z) root r more) in
     let rows : (put_tree 4 empty_pack (under g here root)).rows ≡ last.rows = ap (λ (p : Pack). p.rows) (sym (put ∙ ap (λ p. put_tree 4 p (under g here root)) e)) in
     let rows' : (put_tree 4 empty_pack (under g (added here z) root)).rows ≡ last'.rows = ap (λ (p : Pack). p.rows) (sym (put' ∙ ap (λ p. put_tree 4 p (under g (added here z) root)) e')) in
-    let a : node_rows (under (standing_ground []) others root_cell) ≡ 1 + last.rows + inner 4 (under g here root) = ap node_rows old ∙ ap (λ n. 1 + n + inner 4 (under g here root)) rows in
-    let b : node_rows (under (standing_ground []) (added others z) root_cell) ≡ 1 + last'.rows + inner 4 (under g (added here z) root) = ap node_rows new ∙ ap (λ n. 1 + n + inner 4 (under g (added here z) root)) rows' in
+    let a : node_rows (under (standing_ground marks) others root_cell) ≡ 1 + last.rows + inner 4 (under g here root) = ap node_rows old ∙ ap (λ n. 1 + n + inner 4 (under g here root)) rows in
+    let b : node_rows (under (standing_ground marks) (added others z) root_cell) ≡ 1 + last'.rows + inner 4 (under g (added here z) root) = ap node_rows new ∙ ap (λ n. 1 + n + inner 4 (under g (added here z) root)) rows' in
     shift_is _ _ _ _ _ _ _ _ _ a b (ap most old) (ap most new) (shift_node _ _ _ _ last.rows last'.rows s shift)
 
 -- a zone that is Outside on the root changes nothing
-pub top_apart : (others : List Standing) (z : Standing) → is_on (class_at z.shape root_cell) ≡ false
-    → IsShift (node_rows (under (standing_ground []) others root_cell)) (node_rows (under (standing_ground []) (added others z) root_cell)) (most (under (standing_ground []) others root_cell)) (most (under (standing_ground []) (added others z) root_cell))
+pub top_apart : (marks : List Address) (others : List Standing) (z : Standing) → is_on (class_at z.shape root_cell) ≡ false
+    → IsShift (node_rows (under (standing_ground marks) others root_cell)) (node_rows (under (standing_ground marks) (added others z) root_cell)) (most (under (standing_ground marks) others root_cell)) (most (under (standing_ground marks) (added others z) root_cell))
     (record { less = 0; more = 0; without = 0; with = 0 })
-top_apart others z off =
-    let g = standing_ground [] in
+top_apart marks others z off =
+    let g = standing_ground marks in
     let same : under g (added others z) root_cell ≡ under g others root_cell =
-    sym (top_under [] (added others z) (on g (added others z) root_cell) root_cell refl refl)
+    sym (top_under marks (added others z) (on g (added others z) root_cell) root_cell refl refl)
     ∙ ap (λ xs. under g xs root_cell) (on_not_added g others z root_cell off)
-    ∙ top_under [] others (on g others root_cell) root_cell refl refl in
+    ∙ top_under marks others (on g others root_cell) root_cell refl refl in
     shift_is _ _ _ _ _ _ _ _ _ refl (ap node_rows same) refl (ap most same) (shift_none (node_rows (under g others root_cell)) (most (under g others root_cell)))
 
 pub length_joined : (xs : List Standing) (from to : ℕ) (z : Standing) → length (joined xs from (z ∷ []) to) ≡ length (joined xs from [] to) + 1

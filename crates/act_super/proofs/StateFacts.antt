@@ -1,8 +1,9 @@
 -- Changed zones and their standings.
-use Rattle.std.proofs.Common.{◌≡◌, ℕ, ◌+◌, ◌<◌, ◌≤◌, ◌⊎◌, inl, inr, refl, sym, ap, ◌∙◌, arith, append_assoc, add-one, length-set, Bool, true, false, List, [], ◌∷◌, ◌++◌, Option, Some, None, length, map, take, drop, set, get_or}
-use Rattle.std.specs.Prelude.{insert, remove, nat_lt, slice_index_or, if◌then◌else◌}
+use Rattle.std.proofs.Common.{◌≡◌, ◌&&◌, zero, suc, ℕ, ◌+◌, ◌<◌, ◌≤◌, ◌⊎◌, inl, inr, refl, sym, subst, ap, ◌∙◌, arith, append_assoc, add-one, length-set, Bool, true, false, List, [], ◌∷◌, ◌++◌, Option, Some, None, length, map, take, drop, set, get_or}
+use Rattle.std.specs.Prelude.{insert, remove, nat_le, nat_lt, slice_index_or, if◌then◌else◌}
+use Rattle.std.proofs.lemmas.Bool.{cases_lt}
 use Rattle.std.proofs.lemmas.Bool.Decides.{nat_tests}
-use Rattle.std.proofs.lemmas.List.{drop-map, get_or-map, length-map, map-append, set_split, take-map}
+use Rattle.std.proofs.lemmas.List.{drop-map, get_or-map, length-map, length-take, map-append, set_split, take-map}
 use Rattle.std.proofs.lemmas.List.Edits.{length-insert, length-remove}
 use Rattle.std.proofs.lemmas.List.Elements.{All-append, All-cons, All-drop, All-nil, All-take}
 use Rattle.act_grid.specs.declared.Point.{Point}
@@ -10,6 +11,7 @@ use Rattle.act_grid.specs.declared.Settings.{Settings}
 use Rattle.act_grid.specs.Cell.{Address}
 use Rattle.act_cover.specs.Level.{level_of}
 use Rattle.act_super.specs.declared.entry.Entry.{Entry}
+use Rattle.act_super.specs.declared.entry.Entry.TheVariants as entry
 use Rattle.act_super.specs.declared.entry.State.{State}
 use Rattle.act_super.specs.declared.entry.Zone.{Zone}
 use Rattle.act_super.specs.declared.standing.Standing.{Standing}
@@ -18,11 +20,11 @@ use Rattle.act_super.specs.declared.verdict.Verdict.TheVariants as verdict
 use Rattle.act_super.specs.Packs.{reference_limit}
 use Rattle.act_super.specs.Places.{IsRisingFrom, zones_with}
 use Rattle.act_super.specs.Sizes.{most_references, rows_with}
-use Rattle.act_super.specs.Sound.{IsSound}
+use Rattle.act_super.specs.Sound.{IsFit, IsSound}
 use Rattle.act_super.specs.Standings.{AreLevelled, shapes_in, standing_most, standing_rows}
 use Rattle.act_super.specs.States.{IsFor, Prepared, after, changed, first_cause, key_verdict, reshaped, room_of, room_verdict, trained_after, verdict_of, with_zone, without_key}
-use Rattle.act_super.specs.Training.{fit}
-use Rattle.act_super.proofs.FitFacts.{fit_none}
+use Rattle.act_super.specs.Training.{fit, fits, most_trained}
+use Rattle.act_super.proofs.FitFacts.{fit_is, fit_kept, fit_none}
 use Rattle.act_super.proofs.Keyed.{same_state, put_is, remove_is, reshape_is, shapes_are}
 use Rattle.act_super.proofs.LinkFacts.{most_of_none, rows_of_none, same_most, same_rows}
 
@@ -167,7 +169,7 @@ held_refused settings zones keys standings why h v =
     ap (room_of settings.rows (most_references settings zones)) (sym (held_rows settings zones keys standings [] h))
     ∙ ap (λ most. room_of settings.rows most (standing_rows [] standings)) (sym (held_most settings zones keys standings h)) ∙ v
 
-within_limit : (limit most rows : ℕ) → room_of limit most rows ≡ None → rows ≤ limit
+pub within_limit : (limit most rows : ℕ) → room_of limit most rows ≡ None → rows ≤ limit
 within_limit limit most rows v = by (nat_lt reference_limit most) (nat_lt limit rows) refl v
   where
     by : (a b : Bool) → nat_lt limit rows ≡ b
@@ -194,23 +196,97 @@ second_none : (first second : Option Verdict) → first_cause first second ≡ N
 second_none None second e = e
 second_none (Some why) second e = absurd (cc)
 
--- a change of the zones of a state with no trained cell
-pub prepared : (settings : Settings) (state : State) (entry : Entry) (size most : ℕ) → [] ≡ state.trained
+-- a change of the zones, by what was found of the state after it
+pub prepared : (settings : Settings) (state : State) (entry : Entry) (trained : List Address) (size plain : ℕ)
     → verdict_of settings state entry ≡ first_cause (key_verdict state.zones entry) (room_verdict settings (changed state.zones entry))
     → trained_after settings state entry ≡ fit settings (changed state.zones entry) state.trained
-    → key_verdict state.zones entry ≡ None → room_verdict settings (changed state.zones entry) ≡ None → room_of settings.rows most size ≡ None
-    → size ≡ rows_with settings (changed state.zones entry) []
-    → IsFor settings state (record { entry = entry; size = size; plain = size; cells = settings.cells })
-prepared settings state entry size most none v t key room fits is =
-    let untrained : [] ≡ trained_after settings state entry = fit_none settings (changed state.zones entry) state.trained none ∙ sym t in
-    let sized : size ≡ rows_with settings (changed state.zones entry) (trained_after settings state entry) = is ∙ ap (rows_with settings (changed state.zones entry)) untrained in
+    → key_verdict state.zones entry ≡ None → room_verdict settings (changed state.zones entry) ≡ None
+    → fit settings (changed state.zones entry) state.trained ≡ trained → length trained ≤ most_trained
+    → size ≡ rows_with settings (changed state.zones entry) trained → size ≤ settings.rows → plain ≡ rows_with settings (changed state.zones entry) []
+    → IsFor settings state (record { entry = entry; trained = trained; size = size; plain = plain; cells = settings.cells })
+prepared settings state entry trained size plain v t key room taken few is fits plainly =
+    let here : trained ≡ trained_after settings state entry = sym (t ∙ taken) in
+    let sized : size ≡ rows_with settings (changed state.zones entry) (trained_after settings state entry) = is ∙ ap (rows_with settings (changed state.zones entry)) here in
     record {
       accepted = v ∙ ap (λ x. first_cause x (room_verdict settings (changed state.zones entry))) key ∙ room;
+      trained = here;
+      kept = ap (fit settings (changed state.zones entry)) (sym taken) ∙ fit_kept settings (changed state.zones entry) state.trained ∙ taken;
       sized = sized;
-      plainly = is;
+      plainly = plainly;
       budget = refl;
-      within = record { rows = omega (arith, sized, within_limit settings.rows most size fits); trained = omega (arith, ap (λ xs. length xs) untrained) };
+      within = record { rows = omega (arith, sized, fits); trained = omega (arith, few, ap (λ xs. length xs) here) };
     }
+
+-- a training, by what was found of the state after it
+pub prepared_training : (settings : Settings) (state : State) (cells trained : List Address) (size plain : ℕ)
+    → fit settings state.zones (state.trained ++ cells) ≡ trained → trained ≡ state.trained ++ drop (length state.trained) trained → length trained ≤ most_trained
+    → size ≡ rows_with settings state.zones trained → size ≤ settings.rows → plain ≡ rows_with settings state.zones []
+    → IsFor settings state (record { entry = entry.Train (drop (length state.trained) trained); trained = trained; size = size; plain = plain; cells = settings.cells })
+prepared_training settings state cells trained size plain taken longer few is fits plainly = record {
+  accepted = refl;
+  trained = longer;
+  kept = ap (fit settings state.zones) (sym taken) ∙ fit_kept settings state.zones (state.trained ++ cells) ∙ taken;
+  sized = is ∙ ap (rows_with settings state.zones) longer;
+  plainly = plainly;
+  budget = refl;
+  within = record { rows = omega (arith, is ∙ ap (rows_with settings state.zones) longer, fits); trained = omega (arith, few, ap (λ xs. length xs) longer) };
+}
+
+-- the cells that the code takes are the Fit
+pub held_fit : (settings : Settings) (zones : List Zone) (keys : List ℕ) (standings : List Standing) (cells taken : List Address) → IsHeld settings zones keys standings
+    → IsFit settings.rows standings cells taken → fit settings zones cells ≡ taken
+held_fit settings zones keys standings cells taken h f = fit_is settings zones cells (length taken) f.within each (last f.last) ∙ sym f.first
+  where
+    rows : (m : ℕ) → standing_rows (take m cells) standings ≡ rows_with settings zones (take m cells)
+    rows m = held_rows settings zones keys standings (take m cells) h
+
+    test : (a b p q : ℕ) → a ≤ p → b ≤ q → (nat_le a p && nat_le b q) ≡ true
+    test a b p q h k = grind (arith, nat_tests)
+
+    many : (a b p q : ℕ) → p < a → (nat_le a p && nat_le b q) ≡ false
+    many a b p q h = grind (arith, nat_tests)
+
+    big : (a b p q : ℕ) → q < b → (nat_le a p && nat_le b q) ≡ false
+    big a b p q h = grind (arith, nat_tests)
+
+    each : (m : ℕ) → 1 ≤ m → m ≤ length taken → fits settings zones (take m cells) ≡ true
+    each m least most =
+        test (length (take m cells)) (rows_with settings zones (take m cells)) most_trained settings.rows
+        (omega (arith, length-take m cells, f.few)) (omega (arith, rows m, f.each m most))
+
+    last : (length taken ≡ length cells) ⊎ ((length taken ≡ most_trained) ⊎ (settings.rows < standing_rows (take (length taken + 1) cells) standings))
+        → (length taken ≡ length cells) ⊎ (fits settings zones (take (suc (length taken)) cells) ≡ false)
+    last (inl all) = inl all
+    last (inr (inl most)) = by (cases_lt (length taken) (length cells))
+      where
+        by : (length taken < length cells) ⊎ (length cells ≤ length taken) → (length taken ≡ length cells) ⊎ (fits settings zones (take (suc (length taken)) cells) ≡ false)
+        by (inl less) = inr (many (length (take (suc (length taken)) cells)) (rows_with settings zones (take (suc (length taken)) cells)) most_trained settings.rows (omega (arith, length-take (suc (length taken)) cells, most)))
+        by (inr all) = inl (omega (arith, f.within))
+    last (inr (inr over)) =
+        inr (big (length (take (suc (length taken)) cells)) (rows_with settings zones (take (suc (length taken)) cells)) most_trained settings.rows
+        (omega (arith, rows (suc (length taken)), ap (λ n. standing_rows (take n cells) standings) (add-one (length taken)), over)))
+
+-- a change of the zones, by what the code found of it
+pub prepared_by : (settings : Settings) (state : State) (entry : Entry) (keys : List ℕ) (standings now : List Standing) (cells taken : List Address) (size plain : ℕ)
+    → IsHeld settings (changed state.zones entry) keys standings
+    → verdict_of settings state entry ≡ first_cause (key_verdict state.zones entry) (room_verdict settings (changed state.zones entry))
+    → trained_after settings state entry ≡ fit settings (changed state.zones entry) state.trained
+    → key_verdict state.zones entry ≡ None → room_verdict settings (changed state.zones entry) ≡ None
+    → now ≡ standings → cells ≡ state.trained → IsFit settings.rows now cells taken → size ≡ standing_rows taken now → plain ≡ rows_with settings (changed state.zones entry) []
+    → IsFor settings state (record { entry = entry; trained = taken; size = size; plain = plain; cells = settings.cells })
+prepared_by settings state entry keys standings now cells taken size plain h v t key room same same_cells f is plainly =
+    let g : IsFit settings.rows standings cells taken = subst (λ ss. IsFit settings.rows ss cells taken) same f in
+    let here : size ≡ standing_rows taken standings = is ∙ ap (standing_rows taken) same in
+    prepared settings state entry taken size plain v t key room
+    (ap (fit settings (changed state.zones entry)) (sym same_cells) ∙ held_fit settings (changed state.zones entry) keys standings cells taken h g)
+    f.few (here ∙ held_rows settings (changed state.zones entry) keys standings taken h)
+    (omega (arith, here, g.each (length taken) (omega arith), ap (λ cells. standing_rows cells standings) g.first)) plainly
+
+-- the first of some cells and more, where these are at least as many
+pub longer_list : (cells more : List Address) (n : ℕ) → length cells ≤ n → take n (cells ++ more) ≡ cells ++ drop (length cells) (take n (cells ++ more))
+longer_list [] more n least = refl
+longer_list (c ∷ cells) more zero least = absurd (omega arith)
+longer_list (c ∷ cells) more (suc n) least = ap (λ r. c ∷ r) (longer_list cells more n (omega arith))
 
 -- an update that is turned away by its standings
 pub turned : (settings : Settings) (zones : List Zone) (keys : List ℕ) (standings here : List Standing) (key_cause : Option Verdict) (why : Verdict) → IsHeld settings zones keys standings
@@ -224,32 +300,33 @@ turned settings zones keys standings here key_cause why h e none (inr v) =
     ∙ held_refused settings zones keys standings why h (ap (λ ss. room_of settings.rows (standing_most ss) (standing_rows [] ss)) (sym e) ∙ v)
     )
 
--- a change of the zones that was prepared on a state with no trained cell, and what is kept of the state after it
-module _ (settings : Settings) (state : State) (change : Prepared) (keys : List ℕ) (standings : List Standing) (trained : List Address)
-    (h : IsHeld settings (changed state.zones change.entry) keys standings) (same : state.trained ≡ trained) (none : trained ≡ [])
-    (t : trained_after settings state change.entry ≡ fit settings (changed state.zones change.entry) state.trained) where
-  still : trained_after settings state change.entry ≡ trained
-  still = t ∙ sym (fit_none settings (changed state.zones change.entry) state.trained (sym (same ∙ none))) ∙ sym none
+-- a change that was prepared on a state, and what is kept of the state after it
+module _ (settings : Settings) (state : State) (change : Prepared) (keys : List ℕ) (standings : List Standing)
+    (h : IsHeld settings (changed state.zones change.entry) keys standings) (p : IsFor settings state change) where
+  pub sound_by : rows_with settings (changed state.zones change.entry) [] ≤ settings.rows → most_references settings (changed state.zones change.entry) ≤ reference_limit
+      → IsRisingFrom 0 keys → length keys ≤ 4294967295 → IsSound settings keys standings change.trained change.size change.plain
+  sound_by room referenced rising few = record {
+    lengths = h.lengths;
+    rising = rising;
+    few = few;
+    levels = h.levels;
+    sized = p.sized ∙ ap (rows_with settings (changed state.zones change.entry)) (sym p.trained) ∙ ap (λ zs. rows_with settings zs change.trained) h.zones_are;
+    plainly = p.plainly ∙ ap (λ zs. rows_with settings zs []) h.zones_are;
+    fits = omega (arith, p.sized, p.within.rows);
+    plain_fits = omega (arith, p.plainly, room);
+    referenced = omega (arith, referenced, ap (most_references settings) h.zones_are);
+    kept = ap (λ zs. fit settings zs change.trained) (sym h.zones_are) ∙ p.kept;
+    few_trained = omega (arith, p.within.trained, ap (λ cells. length cells) p.trained);
+  }
 
   pub sound_after : verdict_of settings state change.entry ≡ first_cause (key_verdict state.zones change.entry) (room_verdict settings (changed state.zones change.entry))
-      → IsFor settings state change → IsRisingFrom 0 keys → length keys ≤ 4294967295 → IsSound settings keys standings trained change.size change.plain
-  sound_after v p rising few =
+      → IsRisingFrom 0 keys → length keys ≤ 4294967295 → IsSound settings keys standings change.trained change.size change.plain
+  sound_after v rising few =
       let kept = room_kept settings (changed state.zones change.entry) (second_none (key_verdict state.zones change.entry) (room_verdict settings (changed state.zones change.entry)) (sym v ∙ p.accepted)) in
-      record {
-        lengths = h.lengths;
-        rising = rising;
-        few = few;
-        levels = h.levels;
-        sized = p.sized ∙ ap (rows_with settings (changed state.zones change.entry)) still ∙ ap (λ zs. rows_with settings zs trained) h.zones_are;
-        plainly = p.plainly ∙ ap (λ zs. rows_with settings zs []) h.zones_are;
-        fits = omega (arith, p.sized, p.within.rows);
-        plain_fits = omega (arith, p.plainly, kept.1);
-        referenced = omega (arith, kept.0, ap (most_references settings) h.zones_are);
-        untrained = none;
-      }
+      sound_by kept.1 kept.0 rising few
 
-  pub state_after : ◌≡◌ {A = State} (record { zones = zones_with keys (shapes_in standings); trained = trained }) (after settings state change.entry)
-  state_after = same_state _ _ _ _ (sym h.zones_are) (sym still)
+  pub state_after : ◌≡◌ {A = State} (record { zones = zones_with keys (shapes_in standings); trained = change.trained }) (after settings state change.entry)
+  state_after = same_state _ _ _ _ (sym h.zones_are) p.trained
 
 -- the shape at a place
 pub shape_at_place : (standings : List Standing) (i : ℕ) (z : Standing) → z ≡ get_or standings i z → i < length standings → z.shape ≡ slice_index_or (shapes_in standings) i []
@@ -267,5 +344,6 @@ sound_nothing settings least = record {
   fits = least;
   plain_fits = least;
   referenced = omega (arith, most_of_none settings);
-  untrained = refl;
+  kept = fit_none settings [];
+  few_trained = omega arith;
 }

@@ -37,7 +37,7 @@ any_mono p q (x ∷ items) h e = one (p x) (q x) (list_any p items) (list_any q 
 fewer_below : {X : Type 0} (g : Ground X) → GoesDown g → (items : List X) (c : Address) (q : ℕ) → IsCell c → c.level < 30 → q < 4 → length (on g items (child_of c q)) ≤ length (on g items c)
 fewer_below g down items c q cell low four = let e = length_on g (on g items c) (child_of c q) in rw (on_below g down items c q cell low four) at e
 
-asks_more : {X : Type 0} (g : Ground X) (some all : Address → Bool) → Fewer some all → (c : Address) (items : List X)
+pub asks_more : {X : Type 0} (g : Ground X) (some all : Address → Bool) → Fewer some all → (c : Address) (items : List X)
     → some_asks (trained_by g some) c items ≡ true → some_asks (trained_by g all) c items ≡ true
 asks_more g some all h c items e =
     any_mono (asks (trained_by g some) c) (asks (trained_by g all) c) items (λ x k. one (is_mixed (g.class x c)) (nat_lt c.level (g.level x)) (some c) (all c) (h c) k) e
@@ -45,7 +45,7 @@ asks_more g some all h c items e =
     one : (a b u v : Bool) → (u ≡ true → v ≡ true) → (a && (b || u)) ≡ true → (a && (b || v)) ≡ true
     one a b u v h e = grind arith
 
-cases : (b : Bool) → (b ≡ true) ⊎ (b ≡ false)
+pub cases : (b : Bool) → (b ≡ true) ⊎ (b ≡ false)
 cases true = inl refl
 cases false = inr refl
 
@@ -99,7 +99,7 @@ grows_into g some all down h (suc n) items c cell low =
       ]
     ]
 
-bound_at : {X : Type 0} (g : Ground X) (first some all : Address → Bool) → GoesDown g → Fewer first some → Fewer some all → (n : ℕ) (items : List X) (c : Address) → IsCell c → c.level + n ≤ 28
+pub bound_at : {X : Type 0} (g : Ground X) (first some all : Address → Bool) → GoesDown g → Fewer first some → Fewer some all → (n : ℕ) (items : List X) (c : Address) → IsCell c → c.level + n ≤ 28
     → node_rows (tree_of (trained_by g some) n items c) + 5 * splits (tree_of (trained_by g first) n items c)
     ≤ node_rows (tree_of (trained_by g first) n items c) + 5 * splits (tree_of (trained_by g all) n items c)
 bound_at g first some all down h k n items c cell low =

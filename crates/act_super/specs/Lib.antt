@@ -1,6 +1,7 @@
 pub mod Shapes
 pub mod Places
 pub mod Grounds
+pub mod Marked
 pub mod Trees
 pub mod NodeParts
 pub mod Packs

@@ -134,17 +134,20 @@ pub record IsWithin (settings : Settings) (state : State) : Type 0 where
   pub rows : size_of settings state ≤ settings.rows
   pub trained : length state.trained ≤ most_trained
 
--- what contracts see of a `Next`: its entry, the Size of the state after it and what that is with no trained cell, and for
--- which budget of cells it was prepared
+-- what contracts see of a `Next`: its entry, the trained cells of the state after it, the Size of that state and what that
+-- is with no trained cell, and for which budget of cells it was prepared
 pub record Prepared : Type 0 where
   pub entry : Entry
+  pub trained : List Address
   pub size : ℕ
   pub plain : ℕ
   pub cells : ℕ
 
--- the change was prepared on the state
+-- the change was prepared on the state: the trained cells after it are their own Fit
 pub record IsFor (settings : Settings) (state : State) (change : Prepared) : Type 0 where
   pub accepted : verdict_of settings state change.entry ≡ None
+  pub trained : change.trained ≡ trained_after settings state change.entry
+  pub kept : fit settings (changed state.zones change.entry) change.trained ≡ change.trained
   pub sized : change.size ≡ size_of settings (after settings state change.entry)
   pub plainly : change.plain ≡ rows_with settings (changed state.zones change.entry) []
   pub budget : change.cells ≡ settings.cells

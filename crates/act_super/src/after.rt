@@ -8,7 +8,6 @@ ghost use Rattle.act_super.specs.Places.{zones_with};
 ghost use Rattle.act_super.specs.Nodes.{node_children, node_leaves};
 ghost use Rattle.act_super.specs.Sizes.{leaf_of, refs_of};
 ghost use Rattle.act_super.specs.Standings.{shapes_in};
-ghost use Rattle.act_super.specs.Training.{fit};
 ghost use Rattle.act_super.specs.States.{IsFor, after, changed, has_key, reshaped, with_zone, without_key};
 
 use crate::leaf::leaf_in;
@@ -29,9 +28,10 @@ impl Next {
         ensures { result ≡ leaf_of state.now.settings (after state.now.settings state.now.state self.now.entry) p }
     {
         match &self.change {
-            Change::Add(key, zone) => state.leaf_added(*key, zone, p),
-            Change::DropZone(key) => state.leaf_dropped(*key, p),
-            Change::Replace(key, zone) => state.leaf_reshaped(*key, zone, p),
+            Change::Add(key, zone) => state.leaf_added(*key, zone, &self.marks, p),
+            Change::DropZone(key) => state.leaf_dropped(*key, &self.marks, p),
+            Change::Replace(key, zone) => state.leaf_reshaped(*key, zone, &self.marks, p),
+            Change::Train(_) => state.leaf_trained(&self.marks, p),
         }
     }
 
@@ -44,6 +44,7 @@ impl Next {
             Change::Add(key, zone) => state.refs_added(alloc, *key, zone, cell)?,
             Change::DropZone(key) => state.refs_dropped(alloc, *key, cell)?,
             Change::Replace(key, zone) => state.refs_reshaped(alloc, *key, zone, cell)?,
+            Change::Train(_) => return state.refs(alloc, cell),
         };
         Ok(ZoneRefs::from_vec(refs))
     }
@@ -56,45 +57,55 @@ impl Next {
         ensures children { IfOk result (λ node. node.children ≡ node_children state.now.settings (after state.now.settings state.now.state self.now.entry) cell) }
     {
         let node = match &self.change {
-            Change::Add(key, zone) => state.node_added(alloc, *key, zone, cell)?,
-            Change::DropZone(key) => state.node_dropped(alloc, *key, cell)?,
-            Change::Replace(key, zone) => state.node_reshaped(alloc, *key, zone, cell)?,
+            Change::Add(key, zone) => state.node_added(alloc, *key, zone, &self.marks, cell)?,
+            Change::DropZone(key) => state.node_dropped(alloc, *key, &self.marks, cell)?,
+            Change::Replace(key, zone) => {
+                state.node_reshaped(alloc, *key, zone, &self.marks, cell)?
+            }
+            Change::Train(_) => state.node_trained(alloc, &self.marks, cell)?,
         };
         Ok(node)
     }
 }
 
 impl Super {
-    fn leaf_added(&self, key: u32, zone: &Standing, p: Point) -> Cell
+    fn leaf_added(&self, key: u32, zone: &Standing, marks: &Marks, p: Point) -> Cell
         requires free { has_key key self.now.state.zones ≡ false }
         requires level { zone.now.level ≡ level_of zone.now.shape self.now.settings.cells }
-        ensures { result ≡ leaf_at (zone_ground self.now.settings (fit self.now.settings (with_zone (record { key = key; shape = zone.now.shape }) self.now.state.zones) self.now.state.trained)) (with_zone (record { key = key; shape = zone.now.shape }) self.now.state.zones) p }
+        ensures { result ≡ leaf_at (zone_ground self.now.settings marks.now) (with_zone (record { key = key; shape = zone.now.shape }) self.now.state.zones) p }
     {
         let Err(at) = place(&self.keys, key) else {
             unreachable!()
         };
-        leaf_in(&self.standings, at, Some(zone), at, &self.marks, p)
+        leaf_in(&self.standings, at, Some(zone), at, marks, p)
     }
 
-    fn leaf_dropped(&self, key: u32, p: Point) -> Cell
+    fn leaf_dropped(&self, key: u32, marks: &Marks, p: Point) -> Cell
         requires { has_key key self.now.state.zones ≡ true }
-        ensures { result ≡ leaf_at (zone_ground self.now.settings (fit self.now.settings (without_key key self.now.state.zones) self.now.state.trained)) (without_key key self.now.state.zones) p }
+        ensures { result ≡ leaf_at (zone_ground self.now.settings marks.now) (without_key key self.now.state.zones) p }
     {
         let Ok(at) = place(&self.keys, key) else {
             unreachable!()
         };
-        leaf_in(&self.standings, at, None, at + 1, &self.marks, p)
+        leaf_in(&self.standings, at, None, at + 1, marks, p)
     }
 
-    fn leaf_reshaped(&self, key: u32, zone: &Standing, p: Point) -> Cell
+    fn leaf_reshaped(&self, key: u32, zone: &Standing, marks: &Marks, p: Point) -> Cell
         requires stands { has_key key self.now.state.zones ≡ true }
         requires level { zone.now.level ≡ level_of zone.now.shape self.now.settings.cells }
-        ensures { result ≡ leaf_at (zone_ground self.now.settings (fit self.now.settings (reshaped key zone.now.shape self.now.state.zones) self.now.state.trained)) (reshaped key zone.now.shape self.now.state.zones) p }
+        ensures { result ≡ leaf_at (zone_ground self.now.settings marks.now) (reshaped key zone.now.shape self.now.state.zones) p }
     {
         let Ok(at) = place(&self.keys, key) else {
             unreachable!()
         };
-        leaf_in(&self.standings, at, Some(zone), at + 1, &self.marks, p)
+        leaf_in(&self.standings, at, Some(zone), at + 1, marks, p)
+    }
+
+    pub(crate) fn leaf_trained(&self, marks: &Marks, p: Point) -> Cell
+        ensures { result ≡ leaf_at (zone_ground self.now.settings marks.now) self.now.state.zones p }
+    {
+        let last = self.standings.len();
+        leaf_in(&self.standings, last, None, last, marks, p)
     }
 
     fn refs_added(
@@ -155,38 +166,37 @@ impl Super {
         alloc: Global,
         key: u32,
         zone: &Standing,
+        marks: &Marks,
         cell: Cell,
     ) -> Result<Node, AllocError>
         requires free { has_key key self.now.state.zones ≡ false }
         requires level { zone.now.level ≡ level_of zone.now.shape self.now.settings.cells }
         requires deep { cell.level ≤ 24 }
-        ensures leaves { IfOk result (λ node. node.leaves ≡ leaves_near (zone_ground self.now.settings (fit self.now.settings (with_zone (record { key = key; shape = zone.now.shape }) self.now.state.zones) self.now.state.trained)) 4 (with_zone (record { key = key; shape = zone.now.shape }) self.now.state.zones) cell) }
-        ensures children { IfOk result (λ node. node.children ≡ splits_near (zone_ground self.now.settings (fit self.now.settings (with_zone (record { key = key; shape = zone.now.shape }) self.now.state.zones) self.now.state.trained)) 4 (with_zone (record { key = key; shape = zone.now.shape }) self.now.state.zones) cell) }
+        ensures leaves { IfOk result (λ node. node.leaves ≡ leaves_near (zone_ground self.now.settings marks.now) 4 (with_zone (record { key = key; shape = zone.now.shape }) self.now.state.zones) cell) }
+        ensures children { IfOk result (λ node. node.children ≡ splits_near (zone_ground self.now.settings marks.now) 4 (with_zone (record { key = key; shape = zone.now.shape }) self.now.state.zones) cell) }
     {
         let Err(at) = place(&self.keys, key) else {
             unreachable!()
         };
-        node_in(
-            alloc,
-            &self.standings,
-            at,
-            Some(zone),
-            at,
-            &self.marks,
-            cell,
-        )
+        node_in(alloc, &self.standings, at, Some(zone), at, marks, cell)
     }
 
-    fn node_dropped(&self, alloc: Global, key: u32, cell: Cell) -> Result<Node, AllocError>
+    fn node_dropped(
+        &self,
+        alloc: Global,
+        key: u32,
+        marks: &Marks,
+        cell: Cell,
+    ) -> Result<Node, AllocError>
         requires stands { has_key key self.now.state.zones ≡ true }
         requires deep { cell.level ≤ 24 }
-        ensures leaves { IfOk result (λ node. node.leaves ≡ leaves_near (zone_ground self.now.settings (fit self.now.settings (without_key key self.now.state.zones) self.now.state.trained)) 4 (without_key key self.now.state.zones) cell) }
-        ensures children { IfOk result (λ node. node.children ≡ splits_near (zone_ground self.now.settings (fit self.now.settings (without_key key self.now.state.zones) self.now.state.trained)) 4 (without_key key self.now.state.zones) cell) }
+        ensures leaves { IfOk result (λ node. node.leaves ≡ leaves_near (zone_ground self.now.settings marks.now) 4 (without_key key self.now.state.zones) cell) }
+        ensures children { IfOk result (λ node. node.children ≡ splits_near (zone_ground self.now.settings marks.now) 4 (without_key key self.now.state.zones) cell) }
     {
         let Ok(at) = place(&self.keys, key) else {
             unreachable!()
         };
-        node_in(alloc, &self.standings, at, None, at + 1, &self.marks, cell)
+        node_in(alloc, &self.standings, at, None, at + 1, marks, cell)
     }
 
     fn node_reshaped(
@@ -194,26 +204,33 @@ impl Super {
         alloc: Global,
         key: u32,
         zone: &Standing,
+        marks: &Marks,
         cell: Cell,
     ) -> Result<Node, AllocError>
         requires stands { has_key key self.now.state.zones ≡ true }
         requires level { zone.now.level ≡ level_of zone.now.shape self.now.settings.cells }
         requires deep { cell.level ≤ 24 }
-        ensures leaves { IfOk result (λ node. node.leaves ≡ leaves_near (zone_ground self.now.settings (fit self.now.settings (reshaped key zone.now.shape self.now.state.zones) self.now.state.trained)) 4 (reshaped key zone.now.shape self.now.state.zones) cell) }
-        ensures children { IfOk result (λ node. node.children ≡ splits_near (zone_ground self.now.settings (fit self.now.settings (reshaped key zone.now.shape self.now.state.zones) self.now.state.trained)) 4 (reshaped key zone.now.shape self.now.state.zones) cell) }
+        ensures leaves { IfOk result (λ node. node.leaves ≡ leaves_near (zone_ground self.now.settings marks.now) 4 (reshaped key zone.now.shape self.now.state.zones) cell) }
+        ensures children { IfOk result (λ node. node.children ≡ splits_near (zone_ground self.now.settings marks.now) 4 (reshaped key zone.now.shape self.now.state.zones) cell) }
     {
         let Ok(at) = place(&self.keys, key) else {
             unreachable!()
         };
-        node_in(
-            alloc,
-            &self.standings,
-            at,
-            Some(zone),
-            at + 1,
-            &self.marks,
-            cell,
-        )
+        node_in(alloc, &self.standings, at, Some(zone), at + 1, marks, cell)
+    }
+
+    pub(crate) fn node_trained(
+        &self,
+        alloc: Global,
+        marks: &Marks,
+        cell: Cell,
+    ) -> Result<Node, AllocError>
+        requires { cell.level ≤ 24 }
+        ensures leaves { IfOk result (λ node. node.leaves ≡ leaves_near (zone_ground self.now.settings marks.now) 4 self.now.state.zones cell) }
+        ensures children { IfOk result (λ node. node.children ≡ splits_near (zone_ground self.now.settings marks.now) 4 self.now.state.zones cell) }
+    {
+        let last = self.standings.len();
+        node_in(alloc, &self.standings, last, None, last, marks, cell)
     }
 }
 

@@ -25,6 +25,7 @@ mod after;
 mod both;
 mod chosen;
 mod entry;
+mod fit;
 mod frame;
 mod gather;
 mod laws;

@@ -1,38 +1,61 @@
 //! Trained cells.
 
 ghost use Rattle.std.specs.Prelude.{◌≡◌};
-ghost use Rattle.act_super.specs.Grounds.{same_cell};
+ghost use Rattle.std.specs.List.Sorted.{IsNonDecreasing};
+ghost use Rattle.act_grid.specs.Cell.{IsCell, id_of};
+ghost use Rattle.act_super.specs.Places.{IsPlaceOf};
 
 use act_grid::Cell;
-use std::alloc::Global;
+use std::alloc::{AllocError, Global};
 use std::marker::Model;
 
 /// The trained cells, in the order of their training. Contracts see the list.
 #[derive(Drop)]
 pub(crate) struct Marks {
     cells: Vec<Cell>,
+    // The ids of the cells in ascending order.
+    ids: Vec<u64>,
 }
 
 impl Model for Marks {
     ghost use Rattle.std.specs.Prelude.{List};
     ghost use Rattle.act_grid.specs.Cell.{Address};
+    ghost use Rattle.act_super.specs.Marked.{IsIndexed};
 
     ghost Value = { List Address };
 
     ghost view = { λ m. m.cells.items };
+
+    ghost invariant = { λ m. IsIndexed m.cells.items m.ids.items };
 }
 
 impl Marks {
-    ghost use Rattle.std.specs.Prelude.{◌≡◌, []};
+    ghost use Rattle.std.specs.Prelude.{◌≡◌, [], IfOk};
     ghost use Rattle.act_super.specs.Grounds.{is_among};
 
-    /// No cells.
+    /// No cells. It takes no memory.
     pub fn new(alloc: Global) -> Marks
         ensures { result ≡ [] }
     {
         Marks {
             cells: Vec::new(alloc),
+            ids: Vec::new(alloc),
         }
+    }
+
+    /// These cells. It takes memory where there are some, and sorts their ids.
+    pub fn of(alloc: Global, cells: &[Cell]) -> Result<Marks, AllocError>
+        ensures { IfOk result (λ marks. marks ≡ cells.now) }
+    {
+        let mut all = Vec::with_capacity(alloc, cells.len())?;
+        let mut ids = Vec::with_capacity(alloc, cells.len())?;
+        for cell in cells {
+            let id = id_in(*cell);
+            all.push(*cell)?;
+            ids.push(id)?;
+        }
+        ids.sort()?;
+        Ok(Marks { cells: all, ids })
     }
 
     /// The cells, for reading.
@@ -42,17 +65,35 @@ impl Marks {
         &self.cells
     }
 
-    /// Whether the cell is trained.
+    /// Whether the cell is trained. Where some are, it takes time logarithmic in their number.
     pub fn has(&self, cell: Cell) -> bool
         ensures { result ≡ is_among self.now cell }
     {
-        self.cells.iter().any(|c| is_same(*c, cell))
+        let ids = self.ids.as_slice();
+        if ids.is_empty() {
+            return false;
+        }
+        match place_in(ids, id_in(cell)) {
+            Ok(_) => true,
+            Err(_) => false,
+        }
     }
 }
 
-// Whether the cells are the same.
-fn is_same(c: Cell, d: Cell) -> bool
-    ensures { result ≡ same_cell c d }
+// The place of the id, or else the place where it would stand.
+fn place_in(ids: &[u64], id: u64) -> Result<usize, usize>
+    requires { IsNonDecreasing ids.now }
+    ensures { IsPlaceOf id ids.now result }
 {
-    c == d
+    ids.binary_search(&id)
+}
+
+// The id of the cell.
+#[inline]
+fn id_in(cell: Cell) -> u64
+    ensures is { result ≡ id_of cell }
+    ensures cell { IsCell cell }
+{
+    let _level = cell.level();
+    cell.id()
 }

@@ -120,7 +120,8 @@ fn more(
     ensures most { IfOk result (λ found. IsMost found.most (standing_most (added (values others.now) zone.now))) }
     ensures few { IfOk result (λ found. found.most < 2 ^ 32) }
 {
-    let shift = shift_at_root(alloc, others, zone)?;
+    let none = Marks::new(alloc);
+    let shift = shift_at_root(alloc, others, zone, &none)?;
     let chain = chain_rows(&zone.shape);
     let nodes = rows + shift.more - shift.less;
     Ok(Found {
@@ -145,7 +146,8 @@ fn fewer(
     ensures few { IfOk result (λ found. found.most < 2 ^ 32) }
     ensures fits { IfOk result (λ found. found.rows < 2 ^ 60) }
 {
-    let shift = shift_at_root(alloc, others, zone)?;
+    let none = Marks::new(alloc);
+    let shift = shift_at_root(alloc, others, zone, &none)?;
     let chain = chain_rows(&zone.shape);
     let nodes = rows - chain;
     Ok(Found {
@@ -154,13 +156,108 @@ fn fewer(
     })
 }
 
+/// The rows that the standings before a place, perhaps one more, and those from that place or the next one on take with
+/// these trained cells. What they take as they stand is given. It looks at what one zone more or less changes alone.
+pub(crate) fn rows_in(
+    alloc: Global,
+    standings: &[Standing],
+    from: usize,
+    new: Option<&Standing>,
+    to: usize,
+    marks: &Marks,
+    rows: u64,
+) -> Result<u64, AllocError>
+    requires from { from ≤ length standings.now }
+    requires to { to ≤ length standings.now }
+    requires step { (to ≡ from) ⊎ (to ≡ from + 1) }
+    requires few { length standings.now < 2 ^ 32 }
+    requires countable { length (spliced standings.now from new to) < 2 ^ 32 }
+    requires rows { rows ≡ standing_rows marks.now standings.now }
+    requires small { rows < 2 ^ 32 }
+    ensures { IfOk result (λ rows. rows ≡ standing_rows marks.now (spliced standings.now from new.entry to)) }
+{
+    let others = gathered(alloc, standings, from, None, to)?;
+    let bare = rows_bare(alloc, standings, from, to, others.as_slice(), marks, rows)?;
+    match new {
+        Some(zone) => rows_more(alloc, others.as_slice(), zone, marks, bare),
+        None => Ok(bare),
+    }
+}
+
+// The rows of the others of the standings, where at most one of these is left out.
+fn rows_bare(
+    alloc: Global,
+    standings: &[Standing],
+    from: usize,
+    to: usize,
+    others: &[&Standing],
+    marks: &Marks,
+    rows: u64,
+) -> Result<u64, AllocError>
+    requires from { from ≤ length standings.now }
+    requires to { to ≤ length standings.now }
+    requires step { (to ≡ from) ⊎ (to ≡ from + 1) }
+    requires few { length standings.now < 2 ^ 32 }
+    requires others { values others.now ≡ spliced standings.now from None to }
+    requires rows { rows ≡ standing_rows marks.now standings.now }
+    requires small { rows < 2 ^ 32 }
+    ensures is { IfOk result (λ rows. rows ≡ standing_rows marks.now (values others.now)) }
+    ensures fits { IfOk result (λ rows. rows < 2 ^ 60) }
+{
+    if to == from {
+        return Ok(rows);
+    }
+    rows_fewer(alloc, others, &standings[from], marks, rows)
+}
+
+// The rows with one zone more.
+fn rows_more(
+    alloc: Global,
+    others: &[&Standing],
+    zone: &Standing,
+    marks: &Marks,
+    rows: u64,
+) -> Result<u64, AllocError>
+    requires few { length others.now + 1 < 2 ^ 32 }
+    requires rows { rows ≡ standing_rows marks.now (values others.now) }
+    requires small { rows < 2 ^ 60 }
+    ensures { IfOk result (λ rows. rows ≡ standing_rows marks.now (added (values others.now) zone.now)) }
+{
+    let shift = shift_at_root(alloc, others, zone, marks)?;
+    let nodes = rows + shift.more - shift.less;
+    Ok(nodes + chain_rows(&zone.shape))
+}
+
+// The rows with one zone less.
+fn rows_fewer(
+    alloc: Global,
+    others: &[&Standing],
+    zone: &Standing,
+    marks: &Marks,
+    rows: u64,
+) -> Result<u64, AllocError>
+    requires few { length others.now + 1 < 2 ^ 32 }
+    requires rows { rows ≡ standing_rows marks.now (added (values others.now) zone.now) }
+    requires small { rows < 2 ^ 32 }
+    ensures is { IfOk result (λ rows. rows ≡ standing_rows marks.now (values others.now)) }
+    ensures fits { IfOk result (λ rows. rows < 2 ^ 60) }
+{
+    let shift = shift_at_root(alloc, others, zone, marks)?;
+    let nodes = rows - chain_rows(&zone.shape);
+    Ok(nodes + shift.less - shift.more)
+}
+
 // What one zone more changes of the rows of nodes and lists, and of the greatest number of references.
-fn shift_at_root(alloc: Global, others: &[&Standing], zone: &Standing) -> Result<Shift, AllocError>
+fn shift_at_root(
+    alloc: Global,
+    others: &[&Standing],
+    zone: &Standing,
+    marks: &Marks,
+) -> Result<Shift, AllocError>
     requires { length others.now + 1 < 2 ^ 32 }
-    ensures shift { IfOk result (λ shift. let old = under (standing_ground []) (values others.now) root_cell in let new = under (standing_ground []) (added (values others.now) zone.now) root_cell in IsShift (node_rows old) (node_rows new) (most old) (most new) shift) }
+    ensures shift { IfOk result (λ shift. let old = under (standing_ground marks.now) (values others.now) root_cell in let new = under (standing_ground marks.now) (added (values others.now) zone.now) root_cell in IsShift (node_rows old) (node_rows new) (most old) (most new) shift) }
     ensures fits { IfOk result (λ shift. (shift.less < 2 ^ 58) × (shift.more < 2 ^ 58)) }
 {
-    let marks = Marks::new(alloc);
     let root = Cell::root();
     let class = zone.class_on(root, root.hull());
     if !is_on(class) {
@@ -172,12 +269,12 @@ fn shift_at_root(alloc: Global, others: &[&Standing], zone: &Standing) -> Result
         });
     }
     let wanted = asks(zone, class, root.level(), marks.has(root));
-    let top = part_on(alloc, others, &marks, root)?;
+    let top = part_on(alloc, others, marks, root)?;
     let mut old = Pack::empty();
     let mut new = Pack::empty();
     let shift = both(
         alloc,
-        &marks,
+        marks,
         4,
         top.zones.as_slice(),
         top.split,
@@ -221,26 +318,31 @@ fn room(alloc: Global, zones: &[&Standing], limit: u32) -> Result<u64, Verdict>
     ensures ok { IfOk result (λ rows. (rows ≡ standing_rows [] (values zones.now)) × (room_of limit (standing_most (values zones.now)) rows ≡ None)) }
     ensures err { IfErr result (λ why. (why ≡ Unfed) ⊎ (room_of limit (standing_most (values zones.now)) (standing_rows [] (values zones.now)) ≡ Some why)) }
 {
-    let Ok(found) = measured(alloc, zones) else {
+    let none = Marks::new(alloc);
+    let Ok(found) = measured(alloc, zones, &none) else {
         return Err(Verdict::NoMemory);
     };
     verdict(found, limit)
 }
 
-// The rows that the zones take, and the greatest number of references of a leaf.
-fn measured(alloc: Global, zones: &[&Standing]) -> Result<Found, AllocError>
+/// The rows that the zones take with these trained cells, and the greatest number of references of a leaf. It looks at
+/// all cells of the super covering.
+pub(crate) fn measured(
+    alloc: Global,
+    zones: &[&Standing],
+    marks: &Marks,
+) -> Result<Found, AllocError>
     requires { length zones.now < 2 ^ 32 }
-    ensures rows { IfOk result (λ found. found.rows ≡ standing_rows [] (values zones.now)) }
-    ensures most { IfOk result (λ found. found.most ≡ standing_most (values zones.now)) }
+    ensures rows { IfOk result (λ found. found.rows ≡ standing_rows marks.now (values zones.now)) }
+    ensures most { IfOk result (λ found. found.most ≡ most (under (standing_ground marks.now) (values zones.now) root_cell)) }
     ensures few { IfOk result (λ found. found.most < 2 ^ 32) }
 {
-    let marks = Marks::new(alloc);
     let root = Cell::root();
-    let top = part_on(alloc, zones, &marks, root)?;
+    let top = part_on(alloc, zones, marks, root)?;
     let mut pack = Pack::empty();
     let below = whole(
         alloc,
-        &marks,
+        marks,
         4,
         top.zones.as_slice(),
         top.split,

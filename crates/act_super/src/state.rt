@@ -4,10 +4,11 @@ ghost use Rattle.std.specs.Prelude.{◌≡◌};
 ghost use Rattle.act_super.specs.declared.verdict.Verdict.TheVariants.{NoMemory as Unfed};
 
 use crate::chosen::chosen_in;
-use crate::leaf::leaf_in;
+use crate::fit::{fit_in, longest, sure_count};
+use crate::gather::gathered;
 use crate::marks::Marks;
 use crate::next::{Change, Next};
-use crate::node::{Node, node_in};
+use crate::node::Node;
 use crate::refs::{ZoneRefs, push_refs};
 use crate::room::room_in;
 use crate::same::same;
@@ -61,14 +62,14 @@ fn unfed(shape: Shape) -> TurnedAdd
 }
 
 impl Super {
-    ghost use Rattle.std.specs.Prelude.{◌≡◌, ◌⊎◌, ◌<◌, ◌≤◌, IfOk, IfErr, Some, length, slice_index_or, slice_get};
+    ghost use Rattle.std.specs.Prelude.{◌≡◌, ◌⊎◌, ◌<◌, ◌≤◌, ◌++◌, IfOk, IfErr, Some, drop, length, slice_index_or, slice_get};
     ghost use Rattle.act_cover.specs.Level.{level_of};
     ghost use Rattle.act_geom.specs.Inside.{is_inside};
     ghost use Rattle.act_super.specs.Nodes.{node_children, node_leaves};
     ghost use Rattle.act_super.specs.Sizes.{leaf_of, refs_of, size_of};
     ghost use Rattle.act_super.specs.States.{IsFor, after, needs, nothing, verdict_of, zone_key_at, zone_shape_at};
-    ghost use Rattle.act_super.specs.Training.{chosen_of};
-    ghost use Rattle.act_super.specs.declared.entry.Entry.TheVariants.{Add, DropZone, Replace};
+    ghost use Rattle.act_super.specs.Training.{chosen_of, fit, trained_more};
+    ghost use Rattle.act_super.specs.declared.entry.Entry.TheVariants.{Add, DropZone, Replace, Train};
 
     /// No zones under these settings.
     pub fn new(alloc: Global, settings: Settings) -> Super
@@ -116,8 +117,8 @@ impl Super {
             self.plain,
             self.settings.rows,
         );
-        let size = match room {
-            Ok(size) => size,
+        let plain = match room {
+            Ok(plain) => plain,
             Err(why) => {
                 return Err(TurnedAdd {
                     why,
@@ -125,10 +126,26 @@ impl Super {
                 });
             }
         };
+        let fitted = fit_in(
+            alloc,
+            &self.standings,
+            at,
+            Some(&zone),
+            at,
+            &self.marks,
+            self.size,
+            plain,
+            self.settings.rows,
+        );
+        let Ok(fitted) = fitted else {
+            return Err(unfed(zone.shape));
+        };
+        let size = fitted.rows;
         Ok(Next {
             change: Change::Add(key, zone),
+            marks: fitted.marks,
             size,
-            plain: size,
+            plain,
             cells,
         })
     }
@@ -142,7 +159,7 @@ impl Super {
         let Ok(at) = place(&self.keys, key) else {
             return Err(Verdict::Unknown);
         };
-        let size = room_in(
+        let plain = room_in(
             alloc,
             &self.standings,
             at,
@@ -151,10 +168,26 @@ impl Super {
             self.plain,
             self.settings.rows,
         )?;
+        let fitted = fit_in(
+            alloc,
+            &self.standings,
+            at,
+            None,
+            at + 1,
+            &self.marks,
+            self.size,
+            plain,
+            self.settings.rows,
+        );
+        let Ok(fitted) = fitted else {
+            return Err(Verdict::NoMemory);
+        };
+        let size = fitted.rows;
         Ok(Next {
             change: Change::DropZone(key),
+            marks: fitted.marks,
             size,
-            plain: size,
+            plain,
             cells: self.settings.cells,
         })
     }
@@ -193,8 +226,8 @@ impl Super {
             self.plain,
             self.settings.rows,
         );
-        let size = match room {
-            Ok(size) => size,
+        let plain = match room {
+            Ok(plain) => plain,
             Err(why) => {
                 return Err(TurnedAdd {
                     why,
@@ -202,12 +235,69 @@ impl Super {
                 });
             }
         };
+        let fitted = fit_in(
+            alloc,
+            &self.standings,
+            at,
+            Some(&zone),
+            at + 1,
+            &self.marks,
+            self.size,
+            plain,
+            self.settings.rows,
+        );
+        let Ok(fitted) = fitted else {
+            return Err(unfed(zone.shape));
+        };
+        let size = fitted.rows;
         Ok(Next {
             change: Change::Replace(key, zone),
+            marks: fitted.marks,
             size,
-            plain: size,
+            plain,
             cells,
         })
+    }
+
+    /// Prepares to train the first of these cells that fit. It leaves the state.
+    pub(crate) fn train_with(&mut self, alloc: Global, cells: Vec<Cell>) -> Result<Next, NoMemory>
+        ensures ok { IfOk result (λ next. (next.entry ≡ Train (drop (length self.old.state.trained) (fit self.old.settings self.old.state.zones (self.old.state.trained ++ cells.items)))) × IsFor self.old.settings self.old.state next × (needs next.entry ≤ self.new.spare)) }
+        ensures same { (self.new.settings ≡ self.old.settings) × (self.new.state ≡ self.old.state) }
+    {
+        let limit = self.settings.rows;
+        let mut all = Vec::new(alloc);
+        all.extend_from_slice(self.marks.as_slice())?;
+        let known = all.len();
+        all.extend_from_slice(&cells)?;
+        let last = self.standings.len();
+        let zones = gathered(alloc, &self.standings, last, None, last)?;
+        let sure = sure_count(self.plain, limit, all.len()).max(known);
+        let fitted = longest(alloc, zones.as_slice(), &all, sure, limit)?;
+        let size = fitted.rows;
+        Ok(Next {
+            change: Change::Train(known),
+            marks: fitted.marks,
+            size,
+            plain: self.plain,
+            cells: self.settings.cells,
+        })
+    }
+
+    /// Prepares to train with a sample and a threshold: the cells that `chosen` answers are appended to the trained list
+    /// as far as they fit. It leaves the state.
+    pub fn prepare_train(
+        &mut self,
+        alloc: Global,
+        sample: &[Point],
+        threshold: u32,
+    ) -> Result<Next, NoMemory>
+        requires threshold { 1 ≤ threshold }
+        requires few { length sample.now ≤ 65536 }
+        ensures ok { IfOk result (λ next. (next.entry ≡ Train (trained_more self.old.settings self.old.state sample.now threshold)) × IsFor self.old.settings self.old.state next × (needs next.entry ≤ self.new.spare)) }
+        ensures same { (self.new.settings ≡ self.old.settings) × (self.new.state ≡ self.old.state) }
+    {
+        let cells = self.chosen(alloc, sample, threshold)?;
+        self.train_with(alloc, cells.into_vec())
     }
 
     /// Makes a change that was prepared on this state. It takes no memory.
@@ -218,15 +308,17 @@ impl Super {
     {
         let size = next.size;
         let plain = next.plain;
+        let marks = next.marks;
         match next.change {
-            Change::Add(key, zone) => self.put(key, zone, size, plain),
-            Change::DropZone(key) => self.remove(key, size, plain),
-            Change::Replace(key, zone) => self.reshape(key, zone, size, plain),
+            Change::Add(key, zone) => self.put(key, zone, marks, size, plain),
+            Change::DropZone(key) => self.remove(key, marks, size, plain),
+            Change::Replace(key, zone) => self.reshape(key, zone, marks, size, plain),
+            Change::Train(from) => self.train(from, marks, size, plain),
         }
     }
 
-    fn put(&mut self, key: u32, zone: Standing, size: u64, plain: u64)
-        requires prepared { IsFor self.old.settings self.old.state (record { entry = Add key zone.shape; size = size; plain = plain; cells = self.old.settings.cells }) }
+    fn put(&mut self, key: u32, zone: Standing, marks: Marks, size: u64, plain: u64)
+        requires prepared { IsFor self.old.settings self.old.state (record { entry = Add key zone.shape; trained = marks; size = size; plain = plain; cells = self.old.settings.cells }) }
         requires level { zone.level ≡ level_of zone.shape self.old.settings.cells }
         requires room { 1 ≤ self.old.spare }
         ensures { (self.new.settings ≡ self.old.settings) × (self.new.state ≡ after self.old.settings self.old.state (Add key zone.shape)) }
@@ -240,12 +332,13 @@ impl Super {
         let Ok(()) = self.standings.insert(at, zone) else {
             unreachable!()
         };
+        self.marks = marks;
         self.size = size;
         self.plain = plain;
     }
 
-    fn remove(&mut self, key: u32, size: u64, plain: u64)
-        requires { IsFor self.old.settings self.old.state (record { entry = DropZone key; size = size; plain = plain; cells = self.old.settings.cells }) }
+    fn remove(&mut self, key: u32, marks: Marks, size: u64, plain: u64)
+        requires { IsFor self.old.settings self.old.state (record { entry = DropZone key; trained = marks; size = size; plain = plain; cells = self.old.settings.cells }) }
         ensures { (self.new.settings ≡ self.old.settings) × (self.new.state ≡ after self.old.settings self.old.state (DropZone key)) }
     {
         let Ok(at) = place(&self.keys, key) else {
@@ -253,12 +346,13 @@ impl Super {
         };
         self.keys.remove(at);
         self.standings.remove(at);
+        self.marks = marks;
         self.size = size;
         self.plain = plain;
     }
 
-    fn reshape(&mut self, key: u32, zone: Standing, size: u64, plain: u64)
-        requires prepared { IsFor self.old.settings self.old.state (record { entry = Replace key zone.shape; size = size; plain = plain; cells = self.old.settings.cells }) }
+    fn reshape(&mut self, key: u32, zone: Standing, marks: Marks, size: u64, plain: u64)
+        requires prepared { IsFor self.old.settings self.old.state (record { entry = Replace key zone.shape; trained = marks; size = size; plain = plain; cells = self.old.settings.cells }) }
         requires level { zone.level ≡ level_of zone.shape self.old.settings.cells }
         ensures { (self.new.settings ≡ self.old.settings) × (self.new.state ≡ after self.old.settings self.old.state (Replace key zone.shape)) }
     {
@@ -266,6 +360,16 @@ impl Super {
             unreachable!()
         };
         self.standings[at] = zone;
+        self.marks = marks;
+        self.size = size;
+        self.plain = plain;
+    }
+
+    fn train(&mut self, _from: usize, marks: Marks, size: u64, plain: u64)
+        requires { IsFor self.old.settings self.old.state (record { entry = Train (drop _from marks); trained = marks; size = size; plain = plain; cells = self.old.settings.cells }) }
+        ensures { (self.new.settings ≡ self.old.settings) × (self.new.state ≡ after self.old.settings self.old.state (Train (drop _from marks))) }
+    {
+        self.marks = marks;
         self.size = size;
         self.plain = plain;
     }
@@ -281,8 +385,7 @@ impl Super {
     pub fn leaf(&self, p: Point) -> Cell
         ensures { result ≡ leaf_of self.now.settings self.now.state p }
     {
-        let last = self.standings.len();
-        leaf_in(&self.standings, last, None, last, &self.marks, p)
+        self.leaf_trained(&self.marks, p)
     }
 
     /// The references of a leaf, by ascending key: a reference to each zone that isn't Outside on it. It looks at each
@@ -302,8 +405,7 @@ impl Super {
         ensures leaves { IfOk result (λ node. node.leaves ≡ node_leaves self.now.settings self.now.state cell) }
         ensures children { IfOk result (λ node. node.children ≡ node_children self.now.settings self.now.state cell) }
     {
-        let last = self.standings.len();
-        let node = node_in(alloc, &self.standings, last, None, last, &self.marks, cell)?;
+        let node = self.node_trained(alloc, &self.marks, cell)?;
         Ok(node)
     }
 

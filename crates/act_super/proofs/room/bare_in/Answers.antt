@@ -18,7 +18,7 @@ fewer-requires-clause-rows c =
     let next : c.args.to ≡ c.args.from + 1 = elim c.requires.step [ inl e ↦ absurd (c.if-to-from.false e) | inr e ↦ e ] in
     let less : c.args.from < length c.args.standings.now = omega (arith, c.requires.to) in
     let others : values c.args.others.now ≡ joined c.args.standings.now c.args.from [] (c.args.from + 1) = c.requires.others ∙ ap (λ t. joined c.args.standings.now c.args.from [] t) next in
-    c.requires.plain ∙ rows_removed c.args.standings.now c.args.from c.index-standings-from.result less c.index-standings-from.is ∙ ap (λ r. standing_rows [] (added r c.index-standings-from.result)) (sym others)
+    c.requires.plain ∙ rows_removed [] c.args.standings.now c.args.from c.index-standings-from.result less c.index-standings-from.is ∙ ap (λ r. standing_rows [] (added r c.index-standings-from.result)) (sym others)
 
 pub fewer-requires-clause-most : goal.fewer-requires-clause-most
 fewer-requires-clause-most c =

@@ -20,7 +20,7 @@ returns-clause-ok c =
     let is : spliced c.args.standings.now c.args.from c.args.new c.args.to ≡ joined c.args.standings.now c.args.from (c.in-Some.zone.now ∷ []) c.args.to = ap (λ n. spliced c.args.standings.now c.args.from n c.args.to) c.in-Some.is in
     let others : values c.as_slice-2.result.now ≡ joined c.args.standings.now c.args.from [] c.args.to = ap values c.as_slice-2.ensures.value ∙ c.in-Ok.ensures in
     let rows : c.in-Ok-more.found.rows ≡ standing_rows [] (spliced c.args.standings.now c.args.from c.args.new c.args.to) =
-    c.in-Ok-more.ensures.rows ∙ ap (λ r. standing_rows [] (added r c.in-Some.zone.now)) others ∙ sym (rows_joined c.args.standings.now c.args.from c.args.to c.in-Some.zone.now) ∙ ap (standing_rows []) (sym is) in
+    c.in-Ok-more.ensures.rows ∙ ap (λ r. standing_rows [] (added r c.in-Some.zone.now)) others ∙ sym (rows_joined [] c.args.standings.now c.args.from c.args.to c.in-Some.zone.now) ∙ ap (standing_rows []) (sym is) in
     let same : standing_most (added (values c.as_slice-2.result.now) c.in-Some.zone.now) ≡ standing_most (spliced c.args.standings.now c.args.from c.args.new c.args.to) =
     ap (λ r. standing_most (added r c.in-Some.zone.now)) others ∙ sym (most_joined c.args.standings.now c.args.from c.args.to c.in-Some.zone.now) ∙ ap standing_most (sym is) in
     let most_is : IsMost c.in-Ok-more.found.most (standing_most (spliced c.args.standings.now c.args.from c.args.new c.args.to)) = subst (IsMost c.in-Ok-more.found.most) same c.in-Ok-more.ensures.most in
@@ -32,7 +32,7 @@ returns-clause-err c =
     let is : spliced c.args.standings.now c.args.from c.args.new c.args.to ≡ joined c.args.standings.now c.args.from (c.in-Some.zone.now ∷ []) c.args.to = ap (λ n. spliced c.args.standings.now c.args.from n c.args.to) c.in-Some.is in
     let others : values c.as_slice-2.result.now ≡ joined c.args.standings.now c.args.from [] c.args.to = ap values c.as_slice-2.ensures.value ∙ c.in-Ok.ensures in
     let rows : c.in-Ok-more.found.rows ≡ standing_rows [] (spliced c.args.standings.now c.args.from c.args.new c.args.to) =
-    c.in-Ok-more.ensures.rows ∙ ap (λ r. standing_rows [] (added r c.in-Some.zone.now)) others ∙ sym (rows_joined c.args.standings.now c.args.from c.args.to c.in-Some.zone.now) ∙ ap (standing_rows []) (sym is) in
+    c.in-Ok-more.ensures.rows ∙ ap (λ r. standing_rows [] (added r c.in-Some.zone.now)) others ∙ sym (rows_joined [] c.args.standings.now c.args.from c.args.to c.in-Some.zone.now) ∙ ap (standing_rows []) (sym is) in
     let same : standing_most (added (values c.as_slice-2.result.now) c.in-Some.zone.now) ≡ standing_most (spliced c.args.standings.now c.args.from c.args.new c.args.to) =
     ap (λ r. standing_most (added r c.in-Some.zone.now)) others ∙ sym (most_joined c.args.standings.now c.args.from c.args.to c.in-Some.zone.now) ∙ ap standing_most (sym is) in
     let most_is : IsMost c.in-Ok-more.found.most (standing_most (spliced c.args.standings.now c.args.from c.args.new c.args.to)) = subst (IsMost c.in-Ok-more.found.most) same c.in-Ok-more.ensures.most in

@@ -4,7 +4,6 @@ use Rattle.act_super.specs.Grounds.{leaf_at, zone_ground}
 use Rattle.act_super.specs.Places.{zones_with}
 use Rattle.act_super.specs.Standings.{shapes_in, standing_ground}
 use Rattle.act_super.specs.States.{Plain, has_key, without_key}
-use Rattle.act_super.proofs.FitFacts.{fit_none}
 use Rattle.act_super.proofs.Keyed.{has_free}
 use Rattle.act_super.proofs.LeafFacts.{held_leaf}
 use Rattle.act_super.proofs.StateFacts.{IsAt, IsFree, IsHeld, held_dropped, joined}
@@ -22,13 +21,11 @@ pub returns : goal.returns
 returns c =
     let settings : c.args.self.now.settings ≡ c.self.inside.settings = ap (λ (p : Plain). p.settings) (sym c.self.view_is) in
     let zones : c.args.self.now.state.zones ≡ zones_with c.self.inside.keys.items (shapes_in c.self.inside.standings.items) = ap (λ (p : Plain). p.state.zones) (sym c.self.view_is) in
-    let trained : c.args.self.now.state.trained ≡ c.self.inside.marks = ap (λ (p : Plain). p.state.trained) (sym c.self.view_is) in
     let place : IsAt c.args.key c.self.inside.keys.items c.in-Ok.at = rw c.deref.ensures.value at c.in-Ok.ensures in
     let held : IsHeld c.self.inside.settings c.args.self.now.state.zones c.self.inside.keys.items c.self.inside.standings.items =
     record { zones_are = zones; lengths = c.self.invariant.lengths; levels = c.self.invariant.levels } in
     let new = held_dropped c.self.inside.settings c.args.self.now.state.zones c.self.inside.keys.items c.self.inside.standings.items held c.self.invariant.rising c.args.key c.in-Ok.at place in
     c.leaf_in.ensures
-    ∙ ap (λ ss. leaf_at (standing_ground c.self.inside.marks) (joined ss c.in-Ok.at [] (c.in-Ok.at + 1)) c.args.p) c.deref-2.ensures.value
-    ∙ held_leaf c.self.inside.settings _ _ _ c.self.inside.marks c.args.p new
-    ∙ ap (λ (s : Settings). leaf_at (zone_ground s c.self.inside.marks) (without_key c.args.key c.args.self.now.state.zones) c.args.p) (sym settings)
-    ∙ ap (λ cells. leaf_at (zone_ground c.args.self.now.settings cells) (without_key c.args.key c.args.self.now.state.zones) c.args.p) (c.self.invariant.untrained ∙ fit_none c.args.self.now.settings _ c.args.self.now.state.trained (sym (trained ∙ c.self.invariant.untrained)))
+    ∙ ap (λ ss. leaf_at (standing_ground c.args.marks.now) (joined ss c.in-Ok.at [] (c.in-Ok.at + 1)) c.args.p) c.deref-2.ensures.value
+    ∙ held_leaf c.self.inside.settings _ _ _ c.args.marks.now c.args.p new
+    ∙ ap (λ (s : Settings). leaf_at (zone_ground s c.args.marks.now) (without_key c.args.key c.args.self.now.state.zones) c.args.p) (sym settings)

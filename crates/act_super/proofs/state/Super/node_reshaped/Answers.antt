@@ -7,7 +7,6 @@ use Rattle.act_super.specs.NodeParts.{leaves_near, splits_near}
 use Rattle.act_super.specs.Places.{zones_with}
 use Rattle.act_super.specs.Standings.{shapes_in, standing_ground}
 use Rattle.act_super.specs.States.{Plain, has_key, reshaped}
-use Rattle.act_super.proofs.FitFacts.{fit_none}
 use Rattle.act_super.proofs.Keyed.{has_free}
 use Rattle.act_super.proofs.NodeFacts.{held_leaves, held_splits}
 use Rattle.act_super.proofs.StateFacts.{IsAt, IsFree, IsHeld, held_reshaped, joined}
@@ -25,32 +24,28 @@ pub returns-clause-leaves : goal.returns-clause-leaves
 returns-clause-leaves c =
     let settings : c.args.self.now.settings ≡ c.self.inside.settings = ap (λ (p : Plain). p.settings) (sym c.self.view_is) in
     let zones : c.args.self.now.state.zones ≡ zones_with c.self.inside.keys.items (shapes_in c.self.inside.standings.items) = ap (λ (p : Plain). p.state.zones) (sym c.self.view_is) in
-    let trained : c.args.self.now.state.trained ≡ c.self.inside.marks = ap (λ (p : Plain). p.state.trained) (sym c.self.view_is) in
     let place : IsAt c.args.key c.self.inside.keys.items c.in-Ok.at = rw c.deref.ensures.value at c.in-Ok.ensures in
     let held : IsHeld c.self.inside.settings c.args.self.now.state.zones c.self.inside.keys.items c.self.inside.standings.items =
     record { zones_are = zones; lengths = c.self.invariant.lengths; levels = c.self.invariant.levels } in
     let level : c.args.zone.now.level ≡ level_of c.args.zone.now.shape c.self.inside.settings.cells = subst (λ (s : Settings). c.args.zone.now.level ≡ level_of c.args.zone.now.shape s.cells) settings c.requires.level in
     let new = held_reshaped c.self.inside.settings c.args.self.now.state.zones c.self.inside.keys.items c.self.inside.standings.items held c.self.invariant.rising c.args.key c.args.zone.now.shape c.args.zone.now c.in-Ok.at refl level place in
     let same =
-    ap (λ ss. leaves_near (standing_ground c.self.inside.marks) 4 (joined ss c.in-Ok.at (c.args.zone.now ∷ []) (c.in-Ok.at + 1)) c.args.cell) c.deref-2.ensures.value
-    ∙ held_leaves c.self.inside.settings _ _ _ c.self.inside.marks c.args.cell new
-    ∙ ap (λ (s : Settings). leaves_near (zone_ground s c.self.inside.marks) 4 (reshaped c.args.key c.args.zone.now.shape c.args.self.now.state.zones) c.args.cell) (sym settings)
-    ∙ ap (λ cells. leaves_near (zone_ground c.args.self.now.settings cells) 4 (reshaped c.args.key c.args.zone.now.shape c.args.self.now.state.zones) c.args.cell) (c.self.invariant.untrained ∙ fit_none c.args.self.now.settings _ c.args.self.now.state.trained (sym (trained ∙ c.self.invariant.untrained))) in
+    ap (λ ss. leaves_near (standing_ground c.args.marks.now) 4 (joined ss c.in-Ok.at (c.args.zone.now ∷ []) (c.in-Ok.at + 1)) c.args.cell) c.deref-2.ensures.value
+    ∙ held_leaves c.self.inside.settings _ _ _ c.args.marks.now c.args.cell new
+    ∙ ap (λ (s : Settings). leaves_near (zone_ground s c.args.marks.now) 4 (reshaped c.args.key c.args.zone.now.shape c.args.self.now.state.zones) c.args.cell) (sym settings) in
     IfOk-weaker c.node_in.result _ _ (λ node e. e ∙ same) c.node_in.ensures.leaves
 
 pub returns-clause-children : goal.returns-clause-children
 returns-clause-children c =
     let settings : c.args.self.now.settings ≡ c.self.inside.settings = ap (λ (p : Plain). p.settings) (sym c.self.view_is) in
     let zones : c.args.self.now.state.zones ≡ zones_with c.self.inside.keys.items (shapes_in c.self.inside.standings.items) = ap (λ (p : Plain). p.state.zones) (sym c.self.view_is) in
-    let trained : c.args.self.now.state.trained ≡ c.self.inside.marks = ap (λ (p : Plain). p.state.trained) (sym c.self.view_is) in
     let place : IsAt c.args.key c.self.inside.keys.items c.in-Ok.at = rw c.deref.ensures.value at c.in-Ok.ensures in
     let held : IsHeld c.self.inside.settings c.args.self.now.state.zones c.self.inside.keys.items c.self.inside.standings.items =
     record { zones_are = zones; lengths = c.self.invariant.lengths; levels = c.self.invariant.levels } in
     let level : c.args.zone.now.level ≡ level_of c.args.zone.now.shape c.self.inside.settings.cells = subst (λ (s : Settings). c.args.zone.now.level ≡ level_of c.args.zone.now.shape s.cells) settings c.requires.level in
     let new = held_reshaped c.self.inside.settings c.args.self.now.state.zones c.self.inside.keys.items c.self.inside.standings.items held c.self.invariant.rising c.args.key c.args.zone.now.shape c.args.zone.now c.in-Ok.at refl level place in
     let same =
-    ap (λ ss. splits_near (standing_ground c.self.inside.marks) 4 (joined ss c.in-Ok.at (c.args.zone.now ∷ []) (c.in-Ok.at + 1)) c.args.cell) c.deref-2.ensures.value
-    ∙ held_splits c.self.inside.settings _ _ _ c.self.inside.marks c.args.cell new
-    ∙ ap (λ (s : Settings). splits_near (zone_ground s c.self.inside.marks) 4 (reshaped c.args.key c.args.zone.now.shape c.args.self.now.state.zones) c.args.cell) (sym settings)
-    ∙ ap (λ cells. splits_near (zone_ground c.args.self.now.settings cells) 4 (reshaped c.args.key c.args.zone.now.shape c.args.self.now.state.zones) c.args.cell) (c.self.invariant.untrained ∙ fit_none c.args.self.now.settings _ c.args.self.now.state.trained (sym (trained ∙ c.self.invariant.untrained))) in
+    ap (λ ss. splits_near (standing_ground c.args.marks.now) 4 (joined ss c.in-Ok.at (c.args.zone.now ∷ []) (c.in-Ok.at + 1)) c.args.cell) c.deref-2.ensures.value
+    ∙ held_splits c.self.inside.settings _ _ _ c.args.marks.now c.args.cell new
+    ∙ ap (λ (s : Settings). splits_near (zone_ground s c.args.marks.now) 4 (reshaped c.args.key c.args.zone.now.shape c.args.self.now.state.zones) c.args.cell) (sym settings) in
     IfOk-weaker c.node_in.result _ _ (λ node e. e ∙ same) c.node_in.ensures.children

@@ -5,7 +5,7 @@ use Rattle.act_super.specs.Places.{zones_with}
 use Rattle.act_super.specs.Standings.{shapes_in, standing_most, standing_rows}
 use Rattle.act_super.specs.States.{Plain, has_key, key_verdict, room_of}
 use Rattle.act_super.proofs.Keyed.{has_found, has_free}
-use Rattle.act_super.proofs.StateFacts.{IsAt, IsFree, IsHeld, held_accepted, held_added, held_most, held_rows, joined, length_shapes, prepared, turned}
+use Rattle.act_super.proofs.StateFacts.{IsAt, IsFree, IsHeld, held_accepted, held_added, held_most, held_rows, joined, length_shapes, prepared_by, turned, within_limit}
 use Rattle.act_super.proofs.state.Super.prepare_add.Goals as goal
 
 pub returns-in_default-clause-err : goal.returns-in_default-clause-err
@@ -33,7 +33,7 @@ pub returns-clause-ok : goal.returns-clause-ok
 returns-clause-ok c =
     let settings : c.args.self.now.settings ≡ c.self.inside.settings = ap (λ (p : Plain). p.settings) (sym c.self.view_is) in
     let zones : c.args.self.now.state.zones ≡ zones_with c.self.inside.keys.items (shapes_in c.self.inside.standings.items) = ap (λ (p : Plain). p.state.zones) (sym c.self.view_is) in
-    let trained : [] ≡ c.args.self.now.state.trained = sym (ap (λ (p : Plain). p.state.trained) (sym c.self.view_is) ∙ c.self.invariant.untrained) in
+    let trained : c.self.inside.marks ≡ c.args.self.now.state.trained = ap (λ (p : Plain). p.state.trained) c.self.view_is in
     let place : IsFree c.args.key c.self.inside.keys.items c.in-Err.at = rw c.deref.ensures.value at c.in-Err.ensures in
     let held : IsHeld c.self.inside.settings c.args.self.now.state.zones c.self.inside.keys.items c.self.inside.standings.items =
     record { zones_are = zones; lengths = c.self.invariant.lengths; levels = c.self.invariant.levels } in
@@ -41,12 +41,14 @@ returns-clause-ok c =
     let more = held_added c.self.inside.settings c.args.self.now.state.zones c.self.inside.keys.items c.self.inside.standings.items held c.self.invariant.rising c.args.key c.new-zone.result.shape c.new-zone.result c.in-Err.at refl (c.new-zone.ensures.level ∙ ap (λ r. level_of r c.self.inside.settings.cells) (sym c.new-zone.ensures.shape)) place in
     let free : key_verdict c.args.self.now.state.zones (entry.Add c.args.key c.new-zone.result.shape) ≡ None = rw missing refl in
     let here = ap (λ ss. joined ss c.in-Err.at (c.new-zone.result ∷ []) c.in-Err.at) (c.deref-2.ensures.value ∙ c.in-Ok-reserve.ensures.items) in
+    let now = ap (λ ss. joined ss c.in-Err.at (c.new-zone.result ∷ []) c.in-Err.at) (c.deref-3.ensures.value ∙ c.in-Ok-reserve.ensures.items) in
     let told = c.in-Ok-room.ensures.ok in
     let size = told.0 ∙ ap (standing_rows []) here in
-    let fits = ap (λ ss. room_of c.self.inside.settings.rows (standing_most ss) c.in-Ok-room.size) (sym here) ∙ told.1 in
-    let room = held_accepted c.self.inside.settings _ _ _ c.in-Ok-room.size more size fits in (
+    let fits = ap (λ ss. room_of c.self.inside.settings.rows (standing_most ss) c.in-Ok-room.plain) (sym here) ∙ told.1 in
+    let room = held_accepted c.self.inside.settings _ _ _ c.in-Ok-room.plain more size fits in (
       ap (λ r. entry.Add c.args.key r) c.new-zone.ensures.shape,
-      rw settings (prepared c.self.inside.settings c.args.self.now.state (entry.Add c.args.key c.new-zone.result.shape) c.in-Ok-room.size _ trained refl refl free room fits (size ∙ held_rows c.self.inside.settings _ _ _ [] more)),
+      rw settings (prepared_by c.self.inside.settings c.args.self.now.state (entry.Add c.args.key c.new-zone.result.shape) _ _ (joined c.deref-3.result.now c.in-Err.at (c.new-zone.result ∷ []) c.in-Err.at) c.self.inside.marks c.in-Ok-fitted.fitted.marks c.in-Ok-fitted.fitted.rows c.in-Ok-room.plain
+          more refl refl free room now trained c.in-Ok-fitted.ensures.fit c.in-Ok-fitted.ensures.rows (size ∙ held_rows c.self.inside.settings _ _ _ [] more)),
       omega (arith, c.in-Ok.ensures.ok, c.in-Ok-reserve.ensures.ok, c.reserve.ensures.len, c.self.invariant.lengths),
     )
 
@@ -61,3 +63,19 @@ room_in-room-requires-clause-most c =
     let held : IsHeld c.self.inside.settings (zones_with c.self.inside.keys.items (shapes_in c.self.inside.standings.items)) c.self.inside.keys.items c.self.inside.standings.items =
     record { zones_are = refl; lengths = c.self.invariant.lengths; levels = c.self.invariant.levels } in
     omega (arith, c.self.invariant.referenced, held_most c.self.inside.settings _ _ _ held, ap standing_most (c.deref-2.ensures.value ∙ c.in-Ok-reserve.ensures.items))
+
+pub fit_in-fitted-requires-clause-size : goal.fit_in-fitted-requires-clause-size
+fit_in-fitted-requires-clause-size c =
+    let held : IsHeld c.self.inside.settings (zones_with c.self.inside.keys.items (shapes_in c.self.inside.standings.items)) c.self.inside.keys.items c.self.inside.standings.items =
+    record { zones_are = refl; lengths = c.self.invariant.lengths; levels = c.self.invariant.levels } in
+    c.self.invariant.sized ∙ sym (held_rows c.self.inside.settings _ _ _ c.self.inside.marks held) ∙ ap (standing_rows c.self.inside.marks) (sym (c.deref-3.ensures.value ∙ c.in-Ok-reserve.ensures.items))
+
+pub fit_in-fitted-requires-clause-plain : goal.fit_in-fitted-requires-clause-plain
+fit_in-fitted-requires-clause-plain c =
+    let told = c.in-Ok-room.ensures.ok in
+    told.0 ∙ ap (λ ss. standing_rows [] (joined ss c.in-Err.at (c.new-zone.result ∷ []) c.in-Err.at)) (c.deref-2.ensures.value ∙ sym c.deref-3.ensures.value)
+
+pub fit_in-fitted-requires-clause-room : goal.fit_in-fitted-requires-clause-room
+fit_in-fitted-requires-clause-room c =
+    let told = c.in-Ok-room.ensures.ok in
+    within_limit c.self.inside.settings.rows _ c.in-Ok-room.plain told.1

@@ -22,30 +22,30 @@ pub invariant_of-self : goal.invariant_of-self
 invariant_of-self c =
     let settings : c.args.self.now.settings ≡ c.self.inside.settings = ap (λ (p : Plain). p.settings) (sym c.self.view_is) in
     let zones : c.args.self.now.state.zones ≡ zones_with c.self.inside.keys.items (shapes_in c.self.inside.standings.items) = ap (λ (p : Plain). p.state.zones) (sym c.self.view_is) in
-    let trained : c.args.self.now.state.trained ≡ c.self.inside.marks = ap (λ (p : Plain). p.state.trained) (sym c.self.view_is) in
     let place : IsAt c.args.key c.self.inside.keys.items c.in-Ok.at = rw c.deref.ensures.value at c.in-Ok.ensures in
     let held : IsHeld c.self.inside.settings c.args.self.now.state.zones c.self.inside.keys.items c.self.inside.standings.items =
     record { zones_are = zones; lengths = c.self.invariant.lengths; levels = c.self.invariant.levels } in
     let level : c.args.zone.level ≡ level_of c.args.zone.shape c.self.inside.settings.cells = subst (λ (s : Settings). c.args.zone.level ≡ level_of c.args.zone.shape s.cells) settings c.requires.level in
-    let prepared : IsFor c.self.inside.settings c.args.self.now.state (record { entry = entry.Replace c.args.key c.args.zone.shape; size = c.args.size; plain = c.args.plain; cells = c.self.inside.settings.cells }) =
-    subst (λ (s : Settings). IsFor s c.args.self.now.state (record { entry = entry.Replace c.args.key c.args.zone.shape; size = c.args.size; plain = c.args.plain; cells = s.cells })) settings c.requires.prepared in
+    let prepared : IsFor c.self.inside.settings c.args.self.now.state (record { entry = entry.Replace c.args.key c.args.zone.shape; trained = c.args.marks; size = c.args.size; plain = c.args.plain; cells = c.self.inside.settings.cells }) =
+    subst (λ (s : Settings). IsFor s c.args.self.now.state (record { entry = entry.Replace c.args.key c.args.zone.shape; trained = c.args.marks; size = c.args.size; plain = c.args.plain; cells = s.cells })) settings c.requires.prepared in
     let other = held_reshaped c.self.inside.settings c.args.self.now.state.zones c.self.inside.keys.items c.self.inside.standings.items held c.self.invariant.rising c.args.key c.args.zone.shape c.args.zone c.in-Ok.at refl level place in
     let held_now : IsHeld c.self.inside.settings (reshaped c.args.key c.args.zone.shape c.args.self.now.state.zones) c.self.inside.keys.items (slice_set c.self.inside.standings.items c.in-Ok.at c.args.zone) =
     subst (λ ss. IsHeld c.self.inside.settings (reshaped c.args.key c.args.zone.shape c.args.self.now.state.zones) c.self.inside.keys.items ss) (joined_set c.self.inside.standings.items c.in-Ok.at c.args.zone (omega (arith, place.0, c.self.invariant.lengths))) other in
     let rising = c.self.invariant.rising in
     let few = c.self.invariant.few in
-    sound_after c.self.inside.settings c.args.self.now.state (record { entry = entry.Replace c.args.key c.args.zone.shape; size = c.args.size; plain = c.args.plain; cells = c.self.inside.settings.cells }) c.self.inside.keys.items (slice_set c.self.inside.standings.items c.in-Ok.at c.args.zone) c.self.inside.marks held_now trained c.self.invariant.untrained refl refl prepared rising few
+    sound_after c.self.inside.settings c.args.self.now.state (record { entry = entry.Replace c.args.key c.args.zone.shape; trained = c.args.marks; size = c.args.size; plain = c.args.plain; cells = c.self.inside.settings.cells }) c.self.inside.keys.items (slice_set c.self.inside.standings.items c.in-Ok.at c.args.zone) held_now prepared refl rising few
 
 pub returns : goal.returns
 returns c =
     let settings : c.args.self.now.settings ≡ c.self.inside.settings = ap (λ (p : Plain). p.settings) (sym c.self.view_is) in
     let zones : c.args.self.now.state.zones ≡ zones_with c.self.inside.keys.items (shapes_in c.self.inside.standings.items) = ap (λ (p : Plain). p.state.zones) (sym c.self.view_is) in
-    let trained : c.args.self.now.state.trained ≡ c.self.inside.marks = ap (λ (p : Plain). p.state.trained) (sym c.self.view_is) in
     let place : IsAt c.args.key c.self.inside.keys.items c.in-Ok.at = rw c.deref.ensures.value at c.in-Ok.ensures in
     let held : IsHeld c.self.inside.settings c.args.self.now.state.zones c.self.inside.keys.items c.self.inside.standings.items =
     record { zones_are = zones; lengths = c.self.invariant.lengths; levels = c.self.invariant.levels } in
+    let prepared : IsFor c.self.inside.settings c.args.self.now.state (record { entry = entry.Replace c.args.key c.args.zone.shape; trained = c.args.marks; size = c.args.size; plain = c.args.plain; cells = c.self.inside.settings.cells }) =
+    subst (λ (s : Settings). IsFor s c.args.self.now.state (record { entry = entry.Replace c.args.key c.args.zone.shape; trained = c.args.marks; size = c.args.size; plain = c.args.plain; cells = s.cells })) settings c.requires.prepared in
     let level : c.args.zone.level ≡ level_of c.args.zone.shape c.self.inside.settings.cells = subst (λ (s : Settings). c.args.zone.level ≡ level_of c.args.zone.shape s.cells) settings c.requires.level in
     let other = held_reshaped c.self.inside.settings c.args.self.now.state.zones c.self.inside.keys.items c.self.inside.standings.items held c.self.invariant.rising c.args.key c.args.zone.shape c.args.zone c.in-Ok.at refl level place in
     let held_now : IsHeld c.self.inside.settings (reshaped c.args.key c.args.zone.shape c.args.self.now.state.zones) c.self.inside.keys.items (slice_set c.self.inside.standings.items c.in-Ok.at c.args.zone) =
     subst (λ ss. IsHeld c.self.inside.settings (reshaped c.args.key c.args.zone.shape c.args.self.now.state.zones) c.self.inside.keys.items ss) (joined_set c.self.inside.standings.items c.in-Ok.at c.args.zone (omega (arith, place.0, c.self.invariant.lengths))) other in
-    (sym settings, state_after c.self.inside.settings c.args.self.now.state (record { entry = entry.Replace c.args.key c.args.zone.shape; size = c.args.size; plain = c.args.plain; cells = c.self.inside.settings.cells }) c.self.inside.keys.items (slice_set c.self.inside.standings.items c.in-Ok.at c.args.zone) c.self.inside.marks held_now trained c.self.invariant.untrained refl ∙ ap (λ (s : Settings). after s c.args.self.now.state (entry.Replace c.args.key c.args.zone.shape)) (sym settings))
+    (sym settings, state_after c.self.inside.settings c.args.self.now.state (record { entry = entry.Replace c.args.key c.args.zone.shape; trained = c.args.marks; size = c.args.size; plain = c.args.plain; cells = c.self.inside.settings.cells }) c.self.inside.keys.items (slice_set c.self.inside.standings.items c.in-Ok.at c.args.zone) held_now prepared ∙ ap (λ (s : Settings). after s c.args.self.now.state (entry.Replace c.args.key c.args.zone.shape)) (sym settings))

@@ -1,30 +1,33 @@
 use Rattle.std.proofs.Common.{◌≡◌, ◌∙◌, ap, arith, length, refl}
+use Rattle.std.proofs.lemmas.Result.{IfOk-weaker}
+use Rattle.act_super.specs.Grounds.{zone_ground}
 use Rattle.act_super.specs.NodeParts.{leaves_near, splits_near}
 use Rattle.act_super.specs.Places.{zones_with}
-use Rattle.act_super.specs.Nodes.{node_children, node_leaves}
 use Rattle.act_super.specs.Standings.{shapes_in, standing_ground}
 use Rattle.act_super.specs.States.{Plain}
 use Rattle.act_super.proofs.LeafFacts.{joined_all}
 use Rattle.act_super.proofs.NodeFacts.{held_leaves, held_splits}
 use Rattle.act_super.proofs.StateFacts.{IsHeld}
-use Rattle.act_super.proofs.state.Super.node.Goals as goal
+use Rattle.act_super.proofs.state.Super.node_trained.Goals as goal
 
 pub returns-clause-leaves : goal.returns-clause-leaves
 returns-clause-leaves c =
     let held : IsHeld c.self.inside.settings (zones_with c.self.inside.keys.items (shapes_in c.self.inside.standings.items)) c.self.inside.keys.items c.self.inside.standings.items =
     record { zones_are = refl; lengths = c.self.invariant.lengths; levels = c.self.invariant.levels } in
     let last : c.len-last.result ≡ length c.deref.result.now = omega (arith, c.len-last.ensures, c.deref.ensures.len) in
-    c.in_ok-node.ensures.leaves
-    ∙ ap (λ ss. leaves_near (standing_ground c.self.inside.marks) 4 ss c.args.cell) (joined_all c.deref.result.now c.len-last.result last ∙ c.deref.ensures.value)
-    ∙ held_leaves c.self.inside.settings _ _ _ c.self.inside.marks c.args.cell held
-    ∙ ap (λ (p : Plain). node_leaves p.settings p.state c.args.cell) c.self.view_is
+    let same =
+    ap (λ ss. leaves_near (standing_ground c.args.marks.now) 4 ss c.args.cell) (joined_all c.deref.result.now c.len-last.result last ∙ c.deref.ensures.value)
+    ∙ held_leaves c.self.inside.settings _ _ _ c.args.marks.now c.args.cell held
+    ∙ ap (λ (p : Plain). leaves_near (zone_ground p.settings c.args.marks.now) 4 p.state.zones c.args.cell) c.self.view_is in
+    IfOk-weaker c.node_in.result _ _ (λ node e. e ∙ same) c.node_in.ensures.leaves
 
 pub returns-clause-children : goal.returns-clause-children
 returns-clause-children c =
     let held : IsHeld c.self.inside.settings (zones_with c.self.inside.keys.items (shapes_in c.self.inside.standings.items)) c.self.inside.keys.items c.self.inside.standings.items =
     record { zones_are = refl; lengths = c.self.invariant.lengths; levels = c.self.invariant.levels } in
     let last : c.len-last.result ≡ length c.deref.result.now = omega (arith, c.len-last.ensures, c.deref.ensures.len) in
-    c.in_ok-node.ensures.children
-    ∙ ap (λ ss. splits_near (standing_ground c.self.inside.marks) 4 ss c.args.cell) (joined_all c.deref.result.now c.len-last.result last ∙ c.deref.ensures.value)
-    ∙ held_splits c.self.inside.settings _ _ _ c.self.inside.marks c.args.cell held
-    ∙ ap (λ (p : Plain). node_children p.settings p.state c.args.cell) c.self.view_is
+    let same =
+    ap (λ ss. splits_near (standing_ground c.args.marks.now) 4 ss c.args.cell) (joined_all c.deref.result.now c.len-last.result last ∙ c.deref.ensures.value)
+    ∙ held_splits c.self.inside.settings _ _ _ c.args.marks.now c.args.cell held
+    ∙ ap (λ (p : Plain). splits_near (zone_ground p.settings c.args.marks.now) 4 p.state.zones c.args.cell) c.self.view_is in
+    IfOk-weaker c.node_in.result _ _ (λ node e. e ∙ same) c.node_in.ensures.children
