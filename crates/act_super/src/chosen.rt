@@ -1,8 +1,8 @@
 //! Which cells a training chooses.
 
-ghost use Rattle.std.specs.Prelude.{◌≡◌, ◌+◌, ◌*◌, ◌^◌, ◌<◌, ◌≤◌, ◌++◌, IfOk, OnOk, IsPermutation, IsSortedBy, count_by, drop, filter, length, nat_le, nat_lt, take};
+ghost use Rattle.std.specs.Prelude.{◌≡◌, ◌*◌, ◌^◌, ◌<◌, ◌≤◌, ◌++◌, IfOk, OnOk, IsPermutation, IsSortedBy, count_by, drop, filter, length, nat_le, nat_lt, take};
 ghost use Rattle.std.specs.List.Sorted.{IsNonDecreasing};
-ghost use Rattle.act_grid.specs.Cell.{IsCell, child_of};
+ghost use Rattle.act_grid.specs.Cell.{IsCell};
 ghost use Rattle.act_cover.specs.Covering.{class_at};
 ghost use Rattle.act_super.specs.Choices.{StandFor, cells_in, choice_of, choices_for, choices_of_four, choices_under, ranks_before, spans};
 ghost use Rattle.act_super.specs.Grounds.{is_mixed};
@@ -78,8 +78,8 @@ fn found_in(
     Ok(found)
 }
 
-// Puts the choices among the leaves from a reached cell down. A cell that spans no key is passed over, since a leaf
-// without a sample point costs 0.
+// Puts the choices among the leaves from a reached cell down. A cell of level 28 is never one, and where a cell spans
+// no key its leaves cost 0: both take no look at the zones.
 #[cycle(choose)]
 fn choose(
     alloc: Global,
