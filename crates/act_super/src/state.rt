@@ -159,15 +159,9 @@ impl Super {
         let Ok(at) = place(&self.keys, key) else {
             return Err(Verdict::Unknown);
         };
-        let plain = room_in(
-            alloc,
-            &self.standings,
-            at,
-            None,
-            at + 1,
-            self.plain,
-            self.settings.rows,
-        )?;
+        let old = self.plain;
+        let limit = self.settings.rows;
+        let plain = room_in(alloc, &self.standings, at, None, at + 1, old, limit)?;
         let fitted = fit_in(
             alloc,
             &self.standings,

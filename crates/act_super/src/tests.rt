@@ -274,3 +274,120 @@ fn each_mixed_zone_costs(rt: HostRuntime) -> Result<(), Fail> {
     assert!(rt; chooses(&state, alloc, &PLACES, 6, &BY_COST[..1])?);
     Ok(())
 }
+
+/// The cells at the origin's north-east from the root down, so many of them.
+fn way(alloc: Global, cells: u32) -> Result<Vec<Cell>, Fail> {
+    let mut way = Vec::new(alloc);
+    let mut cell = Cell::root();
+    for _ in 0..cells {
+        way.push(cell)?;
+        if cell.level() < 28 {
+            cell = cell.child(if cell.level() == 0 { 3 } else { 0 });
+        }
+    }
+    Ok(way)
+}
+
+/// Squares over the origin with a budget of one cell, under these keys: the root is their leaf.
+fn squares(alloc: Global, rows: u32, keys: u32) -> Result<Super, Fail> {
+    let mut state = empty(alloc, rows, 1)?;
+    for key in 0..keys {
+        let why = add(&mut state, alloc, key, square(alloc, (-5, -5), (5, 5))?);
+        if why.is_some() {
+            return Err("turned away".into());
+        }
+    }
+    Ok(state)
+}
+
+/// Trains the first of the cells that fit, and tells how many.
+fn train(state: &mut Super, alloc: Global, cells: Vec<Cell>) -> Result<u32, Fail> {
+    let next = state.train_with(alloc, cells)?;
+    let split = next.split();
+    state.commit(next);
+    Ok(split)
+}
+
+/// Three squares over the origin: the lists of the leaves in the root node fill one row, and the node of the cell of
+/// level 4 has a row and a list row of its own. That list goes on to the node of the cell of level 8.
+#[test]
+fn training_takes_rows(rt: HostRuntime) -> Result<(), Fail> {
+    let alloc = rt.alloc();
+    let origin = Point { x: 0, y: 0 };
+    for (rows, given, trained, size) in [
+        (5, 1, 1, 5),
+        (6, 4, 4, 5),
+        (6, 5, 4, 5),
+        (6, 9, 4, 5),
+        (7, 9, 8, 7),
+        (64, 9, 9, 8),
+    ] {
+        let mut state = squares(alloc, rows, 3)?;
+        let split = train(&mut state, alloc, way(alloc, given)?)?;
+        assert_eq!(rt; (split, state.size()), (trained, size));
+        assert_eq!(rt; state.trained().len(), trained as usize);
+        assert_eq!(rt; state.leaf(origin).level(), trained);
+        let next = state.train_with(alloc, Vec::new(alloc))?;
+        assert_eq!(rt; (next.split(), next.size(), next.plain), (0, size, 5));
+        assert!(rt; next.key().is_none() && next.shape().is_none());
+    }
+    Ok(())
+}
+
+/// After a cell that doesn't fit none is trained, though a later one would fit.
+#[test]
+fn training_skips_no_cell(rt: HostRuntime) -> Result<(), Fail> {
+    let alloc = rt.alloc();
+    let mut state = squares(alloc, 6, 3)?;
+    assert_eq!(rt; train(&mut state, alloc, way(alloc, 4)?)?, 4);
+    let mut cells = way(alloc, 5)?;
+    cells.push(Cell::root().child(0))?;
+    assert_eq!(rt; train(&mut state, alloc, cells)?, 4);
+    Ok(())
+}
+
+/// Three squares, at most two of them in each quarter: the root's list falls away where the root is split.
+#[test]
+fn training_may_free_rows(rt: HostRuntime) -> Result<(), Fail> {
+    let alloc = rt.alloc();
+    let mut state = empty(alloc, 5, 1)?;
+    for (key, low, high) in [
+        (1, (-9, -5), (-5, 5)),
+        (2, (5, -5), (9, 5)),
+        (3, (-5, 5), (5, 9)),
+    ] {
+        assert_eq!(rt;
+            add(&mut state, alloc, key, square(alloc, low, high)?),
+            None
+        );
+    }
+    assert_eq!(rt; state.size(), 5);
+    assert_eq!(rt; train(&mut state, alloc, way(alloc, 1)?)?, 1);
+    assert_eq!(rt; state.size(), 4);
+    Ok(())
+}
+
+/// Trained cells give way to a zone, and don't come back when it goes.
+#[test]
+fn zones_come_before_trained_cells(rt: HostRuntime) -> Result<(), Fail> {
+    let alloc = rt.alloc();
+    let origin = Point { x: 0, y: 0 };
+    let mut state = squares(alloc, 8, 3)?;
+    assert_eq!(rt; train(&mut state, alloc, way(alloc, 5)?)?, 5);
+    for (key, level, size) in [(3, 5, 8), (4, 4, 7)] {
+        let Ok(next) = state.prepare_add(alloc, key, square(alloc, (-5, -5), (5, 5))?) else {
+            return Err("turned away".into());
+        };
+        assert_eq!(rt; next.split(), 0);
+        assert_eq!(rt; next.size(), size);
+        assert_eq!(rt; next.leaf(&state, origin).level(), level);
+        assert_eq!(rt; state.leaf(origin).level(), 5);
+        state.commit(next);
+        assert_eq!(rt; state.size(), size);
+        assert_eq!(rt; state.leaf(origin).level(), level);
+    }
+    assert_eq!(rt; drop_zone(&mut state, alloc, 4), None);
+    assert_eq!(rt; state.size(), 6);
+    assert_eq!(rt; state.leaf(origin).level(), 4);
+    Ok(())
+}
