@@ -74,6 +74,12 @@ quarters y p = by (y / 4 == p) refl
         let is : y ≡ p * 4 + r = omega (arith, equal (y / 4) p e) in
         rw (test r 0 four (omega arith) is, test r 1 four (omega arith) is, test r 2 four (omega arith) is, test r 3 four (omega arith) is) (sum r four)
 
+-- a path with one level less
+pub power : (k x : ℕ) → x / 4 ^ suc k ≡ x / 4 ^ k / 4
+power k x =
+    let e : 2 * suc k ≡ 2 * k + 2 = omega arith in
+    ap (λ v. x / v) (four (suc k) ∙ ap (λ n. 2 ^ n) e) ∙ sym (shr-shr x (2 * k) 2) ∙ ap (λ v. x / v / 4) (sym (four k))
+
 -- a cell in another one is that one, or lies in one of its quarters
 one_part : (c d : Address)
     → bit (lies_in (child_of c 0) d) + bit (lies_in (child_of c 1) d) + bit (lies_in (child_of c 2) d) + bit (lies_in (child_of c 3) d) + bit (same_cell d c) ≤ bit (lies_in c d)
@@ -84,11 +90,6 @@ one_part c d = by (cases_lt c.level d.level)
 
     le_yes : (a b : ℕ) → a ≤ b → nat_le a b ≡ true
     le_yes a b h = grind (arith, nat_tests)
-
-    power : (k x : ℕ) → x / 4 ^ suc k ≡ x / 4 ^ k / 4
-    power k x =
-        let e : 2 * suc k ≡ 2 * k + 2 = omega arith in
-        ap (λ v. x / v) (four (suc k) ∙ ap (λ n. 2 ^ n) e) ∙ sym (shr-shr x (2 * k) 2) ∙ ap (λ v. x / v / 4) (sym (four k))
 
     give : (a b c d e f : ℕ) → e ≡ 0 → a + b + c + d ≤ f → a + b + c + d + e ≤ f
     give a b c d e f h k = omega arith

@@ -26,6 +26,7 @@ pub mod GrowFacts
 pub mod TrainFacts
 pub mod CountFacts
 pub mod StepFacts
+pub mod GrownFacts
 pub mod NodeFacts
 pub mod SpanFacts
 pub mod OrderFacts

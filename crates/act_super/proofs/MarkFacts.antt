@@ -22,15 +22,18 @@ unequal a b h = grind arith
 same_itself : (c : Address) → same_cell c c ≡ true
 same_itself c = rw (eq-eqb c.level c.level refl, eq-eqb c.path c.path refl) refl
 
--- cells that are the same have one id
-same_then : (c d : Address) → same_cell d c ≡ true → id_of d ≡ id_of c
-same_then c d e = ids (equal d.level c.level (both (d.level == c.level) (d.path == c.path) e).0) (equal d.path c.path (both (d.level == c.level) (d.path == c.path) e).1)
+-- cells that are the same have one level, one path and one id
+pub same_then_all : (c d : Address) → same_cell d c ≡ true → (d.level ≡ c.level) × (d.path ≡ c.path)
+same_then_all c d e = (equal d.level c.level (both (d.level == c.level) (d.path == c.path) e).0, equal d.path c.path (both (d.level == c.level) (d.path == c.path) e).1)
   where
     both : (a b : Bool) → (a && b) ≡ true → (a ≡ true) × (b ≡ true)
     both true true e = (refl, refl)
     both true false e = absurd (cc)
     both false b e = absurd (cc)
 
+same_then : (c d : Address) → same_cell d c ≡ true → id_of d ≡ id_of c
+same_then c d e = ids (same_then_all c d e).0 (same_then_all c d e).1
+  where
     ids : d.level ≡ c.level → d.path ≡ c.path → id_of d ≡ id_of c
     ids l p = cc
 

@@ -7,6 +7,7 @@ pub mod NodeParts
 pub mod Packs
 pub mod Parts
 pub mod Shifts
+pub mod Growths
 pub mod Sizes
 pub mod Training
 pub mod Choices

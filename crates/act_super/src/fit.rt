@@ -6,6 +6,7 @@ ghost use Rattle.act_super.specs.Standings.{standing_rows, values};
 ghost use Rattle.act_super.specs.Training.{most_trained};
 
 use crate::gather::gathered;
+use crate::grow::rows_grown;
 use crate::marks::Marks;
 use crate::room::{measured, rows_in};
 use crate::standing::Standing;
@@ -81,8 +82,8 @@ pub(crate) fn sure_count(plain: u64, limit: u32, cells: usize) -> usize
     (room as usize).min(cells).min(MOST_TRAINED)
 }
 
-/// The cells that fit, and the rows that the zones take with them. So many of the cells are known to fit. For each further
-/// one it looks at all cells of the super covering.
+/// The cells that fit, and the rows that the zones take with them. So many of the cells are known to fit. It looks once at
+/// all cells of the super covering, and for each further cell at those on the way to it.
 pub(crate) fn longest(
     alloc: Global,
     zones: &[&Standing],
@@ -101,7 +102,7 @@ pub(crate) fn longest(
     let mut fitted = first_of(alloc, zones, cells, sure)?;
     let last = cells.len().min(MOST_TRAINED);
     for count in sure..last {
-        let more = first_of(alloc, zones, cells, count + 1)?;
+        let more = one_more(alloc, zones, &fitted, cells, count)?;
         if more.rows > u64::from(limit) {
             return Ok(fitted);
         }
@@ -128,4 +129,26 @@ fn first_of(
         marks,
         rows: found.rows,
     })
+}
+
+// One cell more than so many, and the rows that the zones take with them.
+fn one_more(
+    alloc: Global,
+    zones: &[&Standing],
+    fitted: &Fitted,
+    cells: &[Cell],
+    count: usize,
+) -> Result<Fitted, AllocError>
+    requires few { length zones.now < 2 ^ 32 }
+    requires within { count < length cells.now }
+    requires marks { fitted.now.marks ≡ take count cells.now }
+    requires rows { fitted.now.rows ≡ standing_rows (take count cells.now) (values zones.now) }
+    requires small { fitted.now.rows < 2 ^ 32 }
+    ensures marks { IfOk result (λ more. more.marks ≡ take (count + 1) cells.now) }
+    ensures rows { IfOk result (λ more. more.rows ≡ standing_rows (take (count + 1) cells.now) (values zones.now)) }
+{
+    let marks = Marks::of(alloc, &cells[..count + 1])?;
+    let fresh = cells[count];
+    let rows = rows_grown(alloc, zones, &fitted.marks, &marks, fresh, fitted.rows)?;
+    Ok(Fitted { marks, rows })
 }

@@ -28,6 +28,7 @@ mod entry;
 mod fit;
 mod frame;
 mod gather;
+mod grow;
 mod laws;
 mod leaf;
 mod lists;

@@ -38,3 +38,6 @@ returns-clause-from c =
 
 pub returns-clause-rows : goal.returns-clause-rows
 returns-clause-rows c = rows_taken (values c.args.zones.now) c.args.cells.now c.loop-count.fitted.marks c.loop-count.count c.loop-count.fitted.rows c.loop-count.invariant.marks c.loop-count.invariant.rows
+
+pub one_more-requires-clause-small : goal.one_more-requires-clause-small
+one_more-requires-clause-small c = omega (arith, c.loop-count.invariant.rows, c.loop-count.invariant.each c.loop-count.count (omega arith), c.ranges.limit.fits)
