@@ -23,12 +23,12 @@ use Rattle.act_super.specs.Sizes.{refs_of}
 use Rattle.act_super.specs.Stands.{IsServed, Layout, Stands, StandsBy, entry_at, entry_for, leaf_entry, ref_in, refs_in}
 use Rattle.act_probe.specs.Chains.{RefsOf}
 use Rattle.act_probe.specs.Reads.{nodes_above}
-use Rattle.act_probe.specs.Ways.{IsReached, IsTop, child_in, leaf_of}
+use Rattle.act_probe.specs.Ways.{IsReached, IsTop, child_in, leaf_of, over}
 use Rattle.act_probe.proofs.ChainFacts.{row_fits}
 use Rattle.act_probe.proofs.LeafFacts.{holds, no_deeper}
 use Rattle.act_probe.proofs.ListFacts.{pairs_enough}
 use Rattle.act_probe.proofs.StandFacts.{held_list, held_node, hit_on, refs_at, zones_on}
-use Rattle.act_probe.proofs.WayFacts.{below_node, entry_is, entry_of_id, entry_on, in_root, over, root_is, same_leaf}
+use Rattle.act_probe.proofs.WayFacts.{below_node, entry_is, entry_of_id, entry_on, in_root, root_is, same_leaf}
 
 -- the cell of level 30 that holds a point, by its id
 pub top_is : (p : Point) (c : Address) (id : ℕ) → c.level ≡ 30 → IsCell c → IsIn (hull_of c) p → id ≡ id_of c → IsTop id p

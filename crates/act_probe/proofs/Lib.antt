@@ -8,3 +8,5 @@ pub mod StandFacts
 pub mod FoundFacts
 pub mod EntryFacts
 pub mod TellFacts
+pub mod GroupFacts
+pub mod HalfFacts

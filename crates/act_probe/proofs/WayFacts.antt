@@ -12,11 +12,8 @@ use Rattle.act_grid.proofs.CellOrder.{in_within, part_within}
 use Rattle.act_super.specs.declared.entry.State.{State}
 use Rattle.act_super.specs.Grounds.{leaf_at, leaf_within}
 use Rattle.act_super.specs.Nodes.{entry_cell, first_leaf, ground_of, is_parted}
+use Rattle.act_probe.specs.Ways.{over}
 use Rattle.act_probe.proofs.LeafFacts.{agree}
-
--- the cell of a level above a cell of level 30
-abbrev pub over : ℕ → ℕ → Address
-over path l = record { level = l; path = path / 4 ^ (30 - l) }
 
 -- the entry of a node on the way: the next four numbers of the path
 abbrev pub entry_on : ℕ → ℕ → ℕ

@@ -1,5 +1,5 @@
 -- The way down to a leaf.
-use Rattle.std.specs.Prelude.{◌≡◌, ℕ, ◌+◌, ◌*◌, ◌/◌, ◌<◌, false, Option, Some, None}
+use Rattle.std.specs.Prelude.{◌≡◌, ℕ, ◌+◌, ◌-◌, ◌*◌, ◌/◌, ◌^◌, ◌<◌, false, Option, Some, None}
 use Rattle.act_grid.specs.declared.Point.{Point}
 use Rattle.act_grid.specs.declared.Settings.{Settings}
 use Rattle.act_grid.specs.Hull.{IsIn}
@@ -17,6 +17,10 @@ pub record IsTop (id : ℕ) (p : Point) : Type 0 where
   pub odd : id ≡ id / 2 * 2 + 1
   pub cell : IsCell (record { level = 30; path = id / 2 })
   pub inside : IsIn (hull_of (record { level = 30; path = id / 2 })) p
+
+-- the cell of a level above a cell of level 30
+abbrev pub over : ℕ → ℕ → Address
+over path l = record { level = l; path = path / 4 ^ (30 - l) }
 
 -- the leaf that holds a point
 abbrev pub leaf_of : Settings → State → Point → Address

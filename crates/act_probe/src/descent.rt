@@ -13,7 +13,7 @@ use act_grid::{Cell, Point};
 use std::sync::ledger::Ledger;
 
 /// The nodes on the longest way down.
-const MOST_NODES: u32 = 7;
+pub(crate) const MOST_NODES: u32 = 7;
 
 /// The entry of the leaf that holds a point, and how many nodes were read on the way to it.
 #[derive(Clone, Copy, Debug, PartialEq, Eq)]
@@ -24,7 +24,7 @@ pub(crate) struct Reached {
 
 /// The id of the cell of level 30 that holds the point.
 #[inline]
-fn top(p: Point) -> u64
+pub(crate) fn top(p: Point) -> u64
     ensures { IsTop result p }
 {
     Cell::leaf(p).id()
@@ -32,7 +32,7 @@ fn top(p: Point) -> u64
 
 /// The place of the entry that holds the cell of level 30 in the node of a level above it.
 #[inline]
-fn entry_place(id: u64, level: u32) -> u8
+pub(crate) fn entry_place(id: u64, level: u32) -> u8
     requires { level ≤ 26 }
     ensures { result ≡ id / 2 ^ (53 - 2 * level) % 256 }
 {
@@ -41,7 +41,7 @@ fn entry_place(id: u64, level: u32) -> u8
 
 /// The row of the node that an entry names, where it names one.
 #[inline]
-fn child(entry: &Entry) -> Option<u32>
+pub(crate) fn child(entry: &Entry) -> Option<u32>
     ensures { result ≡ child_in entry.now }
 {
     match *entry {

@@ -14,6 +14,7 @@
 
 mod chain;
 mod descent;
+mod group;
 mod keys;
 mod list;
 mod point;

@@ -2,10 +2,10 @@ use Rattle.std.proofs.Common.{◌≡◌, ◌≤◌, ◌*◌, ◌/◌, ◌∙◌,
 use Rattle.std.proofs.lemmas.Option.{same_Some}
 use Rattle.act_super.specs.Nodes.{IsNode}
 use Rattle.act_super.specs.Stands.{entry_at}
-use Rattle.act_probe.specs.Ways.{child_in}
+use Rattle.act_probe.specs.Ways.{child_in, over}
 use Rattle.act_probe.proofs.EntryFacts.{goes_down, is_there, no_eighth, read_entry, root_node, root_over}
 use Rattle.act_probe.proofs.StandFacts.{held_node}
-use Rattle.act_probe.proofs.WayFacts.{entry_on, over}
+use Rattle.act_probe.proofs.WayFacts.{entry_on}
 use Rattle.act_probe.proofs.descent.descend.Goals as goal
 
 pub loop-depth-init : goal.loop-depth-init

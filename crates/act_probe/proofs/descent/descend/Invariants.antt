@@ -3,7 +3,7 @@ use Rattle.act_grid.specs.declared.Settings.{Settings}
 use Rattle.act_super.specs.declared.entry.State.{State}
 use Rattle.act_super.specs.Nodes.{IsNode}
 use Rattle.act_super.specs.Stands.{Stands}
-use Rattle.act_probe.proofs.WayFacts.{over}
+use Rattle.act_probe.specs.Ways.{over}
 use Rattle.act_probe.proofs.descent.descend.Given as goal
 
 -- the row is that of the node on the way at this depth
