@@ -10,3 +10,5 @@ pub mod EntryFacts
 pub mod TellFacts
 pub mod GroupFacts
 pub mod HalfFacts
+pub mod ToldFacts
+pub mod MetFacts

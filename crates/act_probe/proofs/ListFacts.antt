@@ -137,7 +137,7 @@ module _ (x : Sight) (row place : ℕ) (refs : List Ref) (w : HasWords x row pla
         rw same (pair_there j refs pair_within)
 
 -- nothing is left
-pub none_left : (count j : ℕ) (zones : List Zone) → length zones ≡ count → (count + 1) / 2 ≤ j → drop (2 * j) zones ≡ []
+pub none_left : {A : Type 0} (count j : ℕ) (zones : List A) → length zones ≡ count → (count + 1) / 2 ≤ j → drop (2 * j) zones ≡ []
 none_left count j zones long done = drop_all (2 * j) zones (omega (arith, long, done))
 
 -- two references more were taken

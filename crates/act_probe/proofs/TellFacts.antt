@@ -33,6 +33,10 @@ many (a ∷ (b ∷ (c ∷ refs))) row place r q is = omega arith
 long_list : (refs : List Ref) → 2 < length refs → length (words_of refs) ≡ list_reads (length refs)
 long_list refs some = rw (lt-ltb 2 (length refs) some) (omega (arith, length-pairs refs, pairs_enough refs))
 
+pub table_long : (x : Sight) (hit : Zone → Bool) (zones : List Zone) (refs : List Ref) (found : Entry) (row place : ℕ) → Tells x hit zones refs found → found ≡ entry.Table row place
+    → length (words_of refs) ≡ list_reads (length refs)
+table_long x hit zones refs found row place tells is = long_list refs (many refs tells.row tells.place row place (sym is ∙ tells.is))
+
 pub list_few : (x : Sight) (hit : Zone → Bool) (zones : List Zone) (refs : List Ref) (found : Entry) (layers : Layers) (row place n : ℕ) → Tells x hit zones refs found → found ≡ entry.Table row place
     → n ≤ length (words_of refs) + found_reads layers hit zones → n ≤ list_reads (length refs) + found_reads layers hit zones
 list_few x hit zones refs found layers row place n tells is few = omega (arith, few, long_list refs (many refs tells.row tells.place row place (sym is ∙ tells.is)))

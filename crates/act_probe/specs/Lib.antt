@@ -2,3 +2,4 @@ pub mod Reads
 pub mod Chains
 pub mod Ways
 pub mod Groups
+pub mod Batches

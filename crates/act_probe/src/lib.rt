@@ -12,17 +12,21 @@
 //! ```
 #![tactic(auto)]
 
+mod buffers;
 mod chain;
 mod descent;
 mod group;
 mod keys;
 mod list;
+mod meet;
 mod point;
 mod refs;
 #[cfg(test)]
 mod tests;
+mod told;
 mod words;
 
+pub use buffers::{Buffers, Hit};
 pub use keys::Keys;
 pub use point::probe;
 pub use words::Words;

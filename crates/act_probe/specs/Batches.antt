@@ -1,0 +1,77 @@
+-- Batches of points, and the pairs of points with zones.
+use Rattle.std.specs.Prelude.{◌≡◌, ℕ, ◌+◌, ◌≤◌, ◌++◌, [], ◌∷◌, ◌||◌, Bool, false, cond, List, All, filter, map, sum_by}
+use Rattle.act_grid.specs.declared.layers.Layers.{Layers}
+use Rattle.act_grid.specs.declared.Point.{Point}
+use Rattle.act_grid.specs.declared.Settings.{Settings}
+use Rattle.act_grid.specs.Layers.{has_layer, layer_of}
+use Rattle.act_geom.specs.Inside.{is_inside}
+use Rattle.act_base.specs.Sight.{Sight}
+use Rattle.act_entry.specs.declared.reference.Ref.{Ref}
+use Rattle.act_super.specs.declared.entry.State.{State}
+use Rattle.act_super.specs.declared.entry.Zone.{Zone}
+use Rattle.act_super.specs.Joins.{Hit, join}
+use Rattle.act_probe.specs.declared.buffers.Buffers.{Buffers}
+use Rattle.act_probe.specs.declared.buffers.Candidate.{Candidate}
+use Rattle.act_probe.specs.declared.buffers.Found.{Found}
+use Rattle.act_probe.specs.declared.buffers.Hit.{Hit as Pair}
+use Rattle.act_probe.specs.Chains.{ChainAt}
+use Rattle.act_probe.specs.Reads.{body_reads, reads_of}
+
+-- a pair as the join has it
+abbrev pub hit_of : Pair → Hit
+hit_of pair = record { point = pair.point; key = pair.key }
+
+-- the pairs of the buffers
+abbrev pub hits_in : Buffers → List Hit
+hits_in buffers = map hit_of buffers.found.hits.items
+
+-- a zone that meets the leaf of a point: the point with its place in the batch, the zone with the first row of its chain, and
+-- whether it is a true hit
+pub record Met : Type 0 where
+  pub place : ℕ
+  pub point : Point
+  pub zone : Zone
+  pub row : ℕ
+  pub hit : Bool
+
+-- the zone holds the point
+abbrev pub is_held : Met → Bool
+is_held m = m.hit || is_inside m.zone.shape m.point
+
+abbrev pub pair_of : Met → Pair
+pair_of m = record { point = m.place; key = m.zone.key }
+
+-- the words to be read to test it
+abbrev pub test_reads : Met → ℕ
+test_reads m = cond m.hit 0 (body_reads m.zone)
+
+-- the zones of the layers among those of the references of a leaf
+abbrev pub met_by : Layers → ℕ → Point → Ref → Zone → List Met
+met_by layers place p r zone = cond (has_layer layers (layer_of zone.key)) (record { place = place; point = p; zone = zone; row = r.row; hit = r.hit } ∷ []) []
+
+abbrev pub mets_by : Layers → ℕ → Point → List Zone → List Ref → List Met
+mets_by layers place p [] refs = []
+mets_by layers place p (zone ∷ zones) [] = []
+mets_by layers place p (zone ∷ zones) (r ∷ refs) = met_by layers place p r zone ++ mets_by layers place p zones refs
+
+-- the candidates among them, by their slots from i on
+abbrev pub candidate_of : Sight → ℕ → Met → Candidate
+candidate_of x i m = record { head = x.word m.row 0; row = m.row; slot = i; point = m.point; odd = false }
+
+abbrev pub candidates_from : Sight → ℕ → List Met → List Candidate
+candidates_from x i [] = []
+candidates_from x i (m ∷ mets) = cond m.hit [] (candidate_of x i m ∷ []) ++ candidates_from x (i + 1) mets
+
+-- these were found, and no candidate was tested
+pub record Holds (x : Sight) (found : Found) (mets : List Met) : Type 0 where
+  pub hits : found.hits.items ≡ map pair_of mets
+  pub kept : found.kept.items ≡ map (λ (m : Met). m.hit) mets
+  pub candidates : found.candidates.items ≡ candidates_from x 0 mets
+  pub chains : All (λ (m : Met). ChainAt x m.zone m.row) mets
+
+-- what was found for the points, tests aside: some words that were read belong to points to come
+pub record Gathers (x : Sight) (settings : Settings) (state : State) (layers : Layers) (points : List Point) (ahead : ℕ) (found : Found) : Type 0 where
+  pub mets : List Met
+  pub holds : Holds x found mets
+  pub are : map (λ (m : Met). hit_of (pair_of m)) (filter is_held mets) ≡ join layers state.zones points
+  pub few : found.reads + sum_by test_reads mets ≤ ahead + sum_by (λ p. reads_of settings state p layers) points

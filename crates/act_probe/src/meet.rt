@@ -1,0 +1,128 @@
+//! The zones that meet the leaves of points.
+
+ghost use Rattle.std.specs.Prelude.{◌≡◌, ◌+◌, ◌*◌, ◌/◌, ◌<◌, ◌≤◌, ◌^◌, ◌++◌, ◌∷◌, [], Bool, List, OnOk, cond, false, length};
+ghost use Rattle.act_entry.specs.declared.reference.Ref.{Ref};
+ghost use Rattle.act_super.specs.declared.entry.Zone.{Zone};
+ghost use Rattle.act_probe.specs.Chains.{ChainAt, RefsOf, Tells};
+ghost use Rattle.act_probe.specs.Reads.{list_reads};
+ghost use Rattle.act_probe.specs.Batches.{Holds, Met, met_by, mets_by};
+
+use crate::buffers::{Candidate, Found, Hit};
+use crate::told::tell;
+use crate::words::Words;
+use act_base::Steps;
+use act_entry::{Entry, Ref, chain_key};
+use act_grid::{Layers, NoMemory, Point};
+use std::sync::ledger::Ledger;
+
+/// Puts the pair of a point with a zone, and the point as a candidate where the zone is no true hit.
+#[inline]
+fn put(found: &mut Found, r: Ref, head: u64, place: u32, point: Point) -> Result<(), NoMemory>
+    requires room { length found.old.hits.items < 2 ^ 32 }
+    ensures hits { OnOk result (found.new.hits.items ≡ found.old.hits.items ++ record { point = place; key = head / 2 ^ 32 } ∷ []) }
+    ensures kept { OnOk result (found.new.kept.items ≡ found.old.kept.items ++ r.hit ∷ []) }
+    ensures candidates { OnOk result (found.new.candidates.items ≡ found.old.candidates.items
+        ++ cond r.hit [] (record { head = head; row = r.row; slot = length found.old.hits.items; point = point; odd = false } ∷ [])) }
+    ensures reads { found.new.reads ≡ found.old.reads }
+{
+    let slot = found.hits.len() as u32;
+    found.hits.push(Hit {
+        point: place,
+        key: chain_key(head),
+    })?;
+    found.kept.push(r.hit)?;
+    if r.hit {
+        return Ok(());
+    }
+    found.candidates.push(Candidate {
+        head,
+        row: r.row,
+        slot,
+        point,
+        odd: false,
+    })?;
+    Ok(())
+}
+
+/// Takes a reference of a point's leaf: puts the pair with its zone where it is of the layers.
+fn meet<W: Words, L: Ledger>(
+    words: &mut W,
+    r: Ref,
+    place: u32,
+    point: Point,
+    layers: &Layers,
+    found: &mut Found,
+    steps: &mut Steps<L>,
+) -> Result<(), NoMemory>
+    requires chain { (zone : Zone) × ChainAt (W.image words.old) zone r.row }
+    requires room { length found.old.hits.items < 2 ^ 32 }
+    requires few { found.old.reads < 2 ^ 60 }
+    ensures same { words.new ≡ words.old }
+    ensures ok { OnOk result ((zone : Zone) (mets : List Met) → ChainAt (W.image words.old) zone r.row → Holds (W.image words.old) found.old mets
+        → Holds (W.image words.old) found.new (mets ++ met_by layers.now place point r zone)) }
+    ensures reads { found.new.reads ≡ found.old.reads + 1 }
+    ensures ticks { steps.new ≡ steps.old + 1 }
+    ensures room { OnOk result (length found.new.hits.items ≤ length found.old.hits.items + 1) }
+{
+    let head = words.word(r.row, 0, steps);
+    found.reads += 1;
+    if !layers.has(chain_key(head)) {
+        return Ok(());
+    }
+    put(found, r, head, place, point)?;
+    Ok(())
+}
+
+/// Takes the references of a point's leaf.
+fn meet_all<W: Words, L: Ledger>(
+    words: &mut W,
+    refs: &[Ref],
+    place: u32,
+    point: Point,
+    layers: &Layers,
+    found: &mut Found,
+    steps: &mut Steps<L>,
+) -> Result<(), NoMemory>
+    requires refs { (hit : Zone → Bool) × (zones : List Zone) × RefsOf (W.image words.old) hit zones refs.now }
+    requires room { length found.old.hits.items + length refs.now < 2 ^ 32 }
+    requires few { found.old.reads + length refs.now < 2 ^ 60 }
+    ensures same { words.new ≡ words.old }
+    ensures ok { OnOk result ((hit : Zone → Bool) (zones : List Zone) (mets : List Met) → RefsOf (W.image words.old) hit zones refs.now → Holds (W.image words.old) found.old mets
+        → Holds (W.image words.old) found.new (mets ++ mets_by layers.now place point zones refs.now)) }
+    ensures few { found.new.reads ≤ found.old.reads + length refs.now }
+    ensures ticks { steps.new + found.old.reads ≡ steps.old + found.new.reads }
+    ensures room { OnOk result (length found.new.hits.items ≤ length found.old.hits.items + length refs.now) }
+{
+    for r in refs {
+        meet(words, *r, place, point, layers, found, steps)?;
+    }
+    Ok(())
+}
+
+/// Takes what the entry of a point's leaf tells.
+pub(crate) fn meet_entry<W: Words, L: Ledger>(
+    words: &mut W,
+    entry: Entry,
+    place: u32,
+    point: Point,
+    layers: &Layers,
+    refs: &mut Vec<Ref>,
+    found: &mut Found,
+    steps: &mut Steps<L>,
+) -> Result<(), NoMemory>
+    requires tells { (hit : Zone → Bool) × (zones : List Zone) × (all : List Ref) × Tells (W.image words.old) hit zones all entry }
+    requires room { length found.old.hits.items < 2 ^ 31 }
+    requires few { found.old.reads < 2 ^ 59 }
+    ensures same { words.new ≡ words.old }
+    ensures ok { OnOk result ((hit : Zone → Bool) (zones : List Zone) (all : List Ref) (mets : List Met) → Tells (W.image words.old) hit zones all entry → Holds (W.image words.old) found.old mets
+        → Holds (W.image words.old) found.new (mets ++ mets_by layers.now place point zones all)) }
+    ensures few { (hit : Zone → Bool) (zones : List Zone) (all : List Ref) → Tells (W.image words.old) hit zones all entry
+        → found.new.reads ≤ found.old.reads + list_reads (length all) + length all }
+    ensures ticks { steps.new + found.old.reads ≡ steps.old + found.new.reads }
+    ensures room { OnOk result (length found.new.hits.items ≤ length found.old.hits.items + 510) }
+    ensures bound { found.new.reads ≤ found.old.reads + 766 }
+{
+    tell(words, entry, refs, &mut found.reads, steps)?;
+    meet_all(words, refs, place, point, layers, found, steps)?;
+    Ok(())
+}
