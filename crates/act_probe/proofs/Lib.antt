@@ -12,3 +12,5 @@ pub mod GroupFacts
 pub mod HalfFacts
 pub mod ToldFacts
 pub mod MetFacts
+pub mod SumFacts
+pub mod GatherFacts

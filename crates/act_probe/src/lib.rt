@@ -12,6 +12,7 @@
 //! ```
 #![tactic(auto)]
 
+mod batch;
 mod buffers;
 mod chain;
 mod descent;

@@ -1,0 +1,86 @@
+//! The pairs of a batch of points with the zones that hold them.
+
+ghost use Rattle.std.specs.Prelude.{◌≡◌, ℕ, ◌+◌, ◌*◌, ◌<◌, ◌≤◌, ◌^◌, ◌++◌, ◌∷◌, [], All, List, OnOk, length, map, sum_by};
+ghost use Rattle.act_grid.specs.declared.Point.{Point};
+ghost use Rattle.act_grid.specs.declared.Settings.{Settings};
+ghost use Rattle.act_super.specs.declared.entry.State.{State};
+ghost use Rattle.act_super.specs.Stands.{Stands};
+ghost use Rattle.act_probe.specs.Reads.{reads_of};
+ghost use Rattle.act_probe.specs.Ways.{IsReached};
+ghost use Rattle.act_probe.specs.Batches.{Gathers};
+
+use crate::buffers::{Buffers, Found};
+use crate::group::{Way, descend_all};
+use crate::meet::meet_entry;
+use crate::words::Words;
+use act_base::Steps;
+use act_entry::Ref;
+use act_grid::{Layers, NoMemory, Point};
+use std::sync::ledger::Ledger;
+
+/// The points that go down together: enough that their loads overlap.
+const GROUP: usize = 16;
+
+/// Takes the references of the leaf that a way has reached.
+fn meet_way<W: Words, L: Ledger>(
+    words: &mut W,
+    way: &Way,
+    place: u32,
+    layers: &Layers,
+    refs: &mut Vec<Ref>,
+    found: &mut Found,
+    steps: &mut Steps<L>,
+) -> Result<(), NoMemory>
+    requires reached { (root : ℕ) × (settings : Settings) × (state : State) × (s : Stands settings (W.image words.old) root state)
+        × IsReached settings state s.layout way.now.point way.now.entry way.now.nodes }
+    requires room { length found.old.hits.items < 2 ^ 31 }
+    requires few { found.old.reads < 2 ^ 59 }
+    ensures same { words.new ≡ words.old }
+    ensures ok { OnOk result ((root : ℕ) (settings : Settings) (state : State) (s : Stands settings (W.image words.old) root state) (points : List Point) (ahead : ℕ)
+        → IsReached settings state s.layout way.now.point way.now.entry way.now.nodes → length points ≡ place
+        → Gathers (W.image words.old) settings state layers.now points (way.now.nodes + ahead) found.old
+        → Gathers (W.image words.old) settings state layers.now (points ++ way.now.point ∷ []) ahead found.new) }
+    ensures few { (root : ℕ) (settings : Settings) (state : State) (s : Stands settings (W.image words.old) root state)
+        → IsReached settings state s.layout way.now.point way.now.entry way.now.nodes → found.new.reads + way.now.nodes ≤ found.old.reads + reads_of settings state way.now.point layers.now }
+    ensures ticks { steps.new + found.old.reads ≡ steps.old + found.new.reads }
+    ensures room { OnOk result (length found.new.hits.items ≤ length found.old.hits.items + 510) }
+    ensures bound { found.new.reads ≤ found.old.reads + 766 }
+{
+    meet_entry(
+        words, way.entry, place, way.point, layers, refs, found, steps,
+    )?;
+    Ok(())
+}
+
+/// Takes the references of the leaves that the ways of a group have reached.
+fn meet_ways<W: Words, L: Ledger>(
+    words: &mut W,
+    first: u32,
+    ways: &[Way],
+    layers: &Layers,
+    refs: &mut Vec<Ref>,
+    found: &mut Found,
+    steps: &mut Steps<L>,
+) -> Result<(), NoMemory>
+    requires reached { (root : ℕ) × (settings : Settings) × (state : State) × (s : Stands settings (W.image words.old) root state)
+        × All (λ way. IsReached settings state s.layout way.point way.entry way.nodes) ways.now }
+    requires places { first + length ways.now ≤ 8192 }
+    requires room { length found.old.hits.items + 510 * length ways.now < 2 ^ 31 }
+    requires few { found.old.reads + 766 * length ways.now < 2 ^ 59 }
+    ensures same { words.new ≡ words.old }
+    ensures ok { OnOk result ((root : ℕ) (settings : Settings) (state : State) (s : Stands settings (W.image words.old) root state) (points : List Point)
+        → All (λ way. IsReached settings state s.layout way.point way.entry way.nodes) ways.now → length points ≡ first
+        → Gathers (W.image words.old) settings state layers.now points (sum_by (λ way. way.nodes) ways.now) found.old
+        → Gathers (W.image words.old) settings state layers.now (points ++ map (λ way. way.point) ways.now) 0 found.new) }
+    ensures few { (root : ℕ) (settings : Settings) (state : State) (s : Stands settings (W.image words.old) root state)
+        → All (λ way. IsReached settings state s.layout way.point way.entry way.nodes) ways.now
+        → found.new.reads + sum_by (λ way. way.nodes) ways.now ≤ found.old.reads + sum_by (λ p. reads_of settings state p layers.now) (map (λ way. way.point) ways.now) }
+    ensures ticks { steps.new + found.old.reads ≡ steps.old + found.new.reads }
+    ensures room { OnOk result (length found.new.hits.items ≤ length found.old.hits.items + 510 * length ways.now) }
+    ensures bound { found.new.reads ≤ found.old.reads + 766 * length ways.now }
+{
+    for (i, way) in ways.iter().enumerate() {
+        meet_way(words, way, first + i as u32, layers, refs, found, steps)?;
+    }
+    Ok(())
+}
