@@ -153,3 +153,13 @@ points_more points ways i within =
 pub places_more : (points : List Point) (ways : List Way) (i first : ℕ) → i ≤ length ways → length points ≡ first → length (points ++ map (λ (way : Way). way.point) (take i ways)) ≡ first + i
 places_more points ways i first within long =
     length-append points (map (λ (way : Way). way.point) (take i ways)) ∙ omega (arith, long, within, length-map (take i ways) (λ (way : Way). way.point), length-take i ways)
+
+-- words were read for points to come
+pub read_ahead : (x : Sight) (settings : Settings) (state : State) (layers : Layers) (points : List Point) (ahead : ℕ) (old : Found) (reads : ℕ) → Gathers x settings state layers points 0 old
+    → reads ≡ old.reads + ahead → Gathers x settings state layers points ahead (record old { reads = reads })
+read_ahead x settings state layers points ahead old reads g more = record {
+  mets = g.mets;
+  holds = record { hits = g.holds.hits; kept = g.holds.kept; candidates = g.holds.candidates; chains = g.holds.chains };
+  are = g.are;
+  few = omega (arith, more, g.few);
+}

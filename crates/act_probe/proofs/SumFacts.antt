@@ -1,7 +1,9 @@
 -- Sums over a list that is gone through.
-use Rattle.std.proofs.Common.{◌≡◌, ℕ, zero, suc, ◌+◌, ◌≤◌, ◌<◌, refl, sym, ap, ◌∙◌, arith, List, [], ◌∷◌, length, map, take, drop, get_or}
+use Rattle.std.proofs.Common.{◌≡◌, ℕ, zero, suc, ◌+◌, ◌-◌, ◌*◌, ◌≤◌, ◌<◌, ◌++◌, min, refl, sym, ap, ◌∙◌, arith, List, [], ◌∷◌, length, map, take, drop, get_or}
 use Rattle.std.specs.Prelude.{sum_by}
 use Rattle.std.specs.List.{All, AllByRecursion as Each}
+use Rattle.std.proofs.Math.Seq.{take-add}
+use Rattle.std.proofs.lemmas.List.{length-append, take_min}
 use Rattle.std.proofs.lemmas.List.Elements.{recursion_from_All}
 use Rattle.std.proofs.lemmas.List.Sums.{sum_by-cons, sum_by_more, sum_by-drop_more, sum_by-take-drop}
 
@@ -32,3 +34,14 @@ module _ {X : Type 0} (f g : X → ℕ) (xs : List X) where
     stopped all =
         let rest = sums_few f g (drop (i + 1) xs) (each_drop (λ x. f x ≤ g x) (i + 1) xs (recursion_from_All (λ x. f x ≤ g x) xs all)) in
         omega (arith, few, one, rest, sum_by-take-drop f xs i, sum_by-take-drop g xs i, sum_by-drop_more f xs i d within, sum_by-drop_more g xs i d within)
+
+-- the next group of a list that is cut into groups of sixteen
+module _ {X : Type 0} (xs : List X) (k e : ℕ) (more : k * 16 < length xs) (end : e ≡ min (k * 16 + 16) (length xs)) where
+  pub next_group : take ((k + 1) * 16) xs ≡ take (k * 16) xs ++ take (e - k * 16) (drop (k * 16) xs)
+  next_group =
+      let many : (k + 1) * 16 ≡ k * 16 + 16 = omega arith in
+      let parts : e ≡ k * 16 + (e - k * 16) = omega (arith, end, more) in
+      ap (λ n. take n xs) many ∙ sym (take_min (k * 16 + 16) xs) ∙ ap (λ n. take n xs) (sym end ∙ parts) ∙ take-add (k * 16) (e - k * 16) xs
+
+  pub group_long : length (take ((k + 1) * 16) xs) ≡ length (take (k * 16) xs) + length (take (e - k * 16) (drop (k * 16) xs))
+  group_long = ap length next_group ∙ length-append (take (k * 16) xs) (take (e - k * 16) (drop (k * 16) xs))

@@ -84,3 +84,91 @@ fn meet_ways<W: Words, L: Ledger>(
     }
     Ok(())
 }
+
+/// Takes a group of points, whose first has this place in its batch.
+fn meet_group<W: Words, L: Ledger>(
+    words: &mut W,
+    root: u32,
+    first: u32,
+    points: &[Point],
+    layers: &Layers,
+    buffers: &mut Buffers,
+    steps: &mut Steps<L>,
+) -> Result<(), NoMemory>
+    requires stands { (settings : Settings) × (state : State) × Stands settings (W.image words.old) root state }
+    requires places { first + length points.now ≤ 8192 }
+    requires room { length buffers.old.found.hits.items + 510 * length points.now < 2 ^ 31 }
+    requires few { buffers.old.found.reads + 774 * length points.now < 2 ^ 59 }
+    ensures same { words.new ≡ words.old }
+    ensures ok { OnOk result ((settings : Settings) (state : State) → Stands settings (W.image words.old) root state → (before : List Point) → length before ≡ first
+        → Gathers (W.image words.old) settings state layers.now before 0 buffers.old.found
+        → Gathers (W.image words.old) settings state layers.now (before ++ points.now) 0 buffers.new.found) }
+    ensures few { (settings : Settings) (state : State) → Stands settings (W.image words.old) root state
+        → buffers.new.found.reads ≤ buffers.old.found.reads + sum_by (λ p. reads_of settings state p layers.now) points.now }
+    ensures ticks { steps.new + buffers.old.found.reads ≡ steps.old + buffers.new.found.reads }
+    ensures room { OnOk result (length buffers.new.found.hits.items ≤ length buffers.old.found.hits.items + 510 * length points.now) }
+    ensures bound { buffers.new.found.reads ≤ buffers.old.found.reads + 773 * length points.now }
+{
+    descend_all(
+        words,
+        root,
+        points,
+        &mut buffers.ways,
+        &mut buffers.found.reads,
+        steps,
+    )?;
+    meet_ways(
+        words,
+        first,
+        &buffers.ways,
+        layers,
+        &mut buffers.refs,
+        &mut buffers.found,
+        steps,
+    )?;
+    Ok(())
+}
+
+/// Lets go of what was found for the last batch.
+fn clear(found: &mut Found)
+    ensures hits { found.new.hits.items ≡ [] }
+    ensures kept { found.new.kept.items ≡ [] }
+    ensures candidates { found.new.candidates.items ≡ [] }
+    ensures reads { found.new.reads ≡ 0 }
+{
+    found.hits.clear();
+    found.kept.clear();
+    found.candidates.clear();
+    found.reads = 0;
+}
+
+/// Gathers the zones that meet the leaves of the points.
+fn gather<W: Words, L: Ledger>(
+    words: &mut W,
+    root: u32,
+    points: &[Point],
+    layers: &Layers,
+    buffers: &mut Buffers,
+    steps: &mut Steps<L>,
+) -> Result<(), NoMemory>
+    requires stands { (settings : Settings) × (state : State) × Stands settings (W.image words.old) root state }
+    requires places { length points.now ≤ 8192 }
+    ensures same { words.new ≡ words.old }
+    ensures ok { OnOk result ((settings : Settings) (state : State) → Stands settings (W.image words.old) root state
+        → Gathers (W.image words.old) settings state layers.now points.now 0 buffers.new.found) }
+    ensures few { (settings : Settings) (state : State) → Stands settings (W.image words.old) root state
+        → buffers.new.found.reads ≤ sum_by (λ p. reads_of settings state p layers.now) points.now }
+    ensures ticks { steps.new ≡ steps.old + buffers.new.found.reads }
+    ensures room { OnOk result (length buffers.new.found.hits.items ≤ 510 * length points.now) }
+    ensures bound { buffers.new.found.reads ≤ 773 * length points.now }
+{
+    clear(&mut buffers.found);
+    let groups = (points.len() + GROUP - 1) / GROUP;
+    for k in 0..groups {
+        let start = k * GROUP;
+        let end = (start + GROUP).min(points.len());
+        let group = &points[start..end];
+        meet_group(words, root, start as u32, group, layers, buffers, steps)?;
+    }
+    Ok(())
+}
