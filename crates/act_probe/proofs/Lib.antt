@@ -14,3 +14,4 @@ pub mod ToldFacts
 pub mod MetFacts
 pub mod SumFacts
 pub mod GatherFacts
+pub mod SettleFacts

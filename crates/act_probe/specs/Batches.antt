@@ -1,5 +1,5 @@
 -- Batches of points, and the pairs of points with zones.
-use Rattle.std.specs.Prelude.{◌≡◌, ℕ, ◌+◌, ◌≤◌, ◌++◌, [], ◌∷◌, ◌||◌, Bool, false, cond, List, All, filter, map, sum_by}
+use Rattle.std.specs.Prelude.{◌≡◌, ◌⊎◌, ℕ, ◌+◌, ◌<◌, ◌≤◌, ◌++◌, Contains, length, slice_index_or, [], ◌∷◌, ◌||◌, Bool, false, cond, List, All, filter, map, sum_by}
 use Rattle.act_grid.specs.declared.layers.Layers.{Layers}
 use Rattle.act_grid.specs.declared.Point.{Point}
 use Rattle.act_grid.specs.declared.Settings.{Settings}
@@ -75,3 +75,26 @@ pub record Gathers (x : Sight) (settings : Settings) (state : State) (layers : L
   pub holds : Holds x found mets
   pub are : map (λ (m : Met). hit_of (pair_of m)) (filter is_held mets) ≡ join layers state.zones points
   pub few : found.reads + sum_by test_reads mets ≤ ahead + sum_by (λ p. reads_of settings state p layers) points
+
+-- ---- candidates
+-- a candidate of this zone, which isn't tested yet
+pub record Asks (x : Sight) (zone : Zone) (c : Candidate) : Type 0 where
+  pub chain : ChainAt x zone c.row
+  pub head : c.head ≡ x.word c.row 0
+  pub even : c.odd ≡ false
+
+-- the candidate once it was tested, by the zones of the slots
+abbrev pub answered : (ℕ → Zone) → Candidate → Candidate
+answered zones c = record c { odd = is_inside (zones c.slot).shape c.point }
+
+-- the items at the places that are true
+abbrev pub chosen : {X : Type 0} → List Bool → List X → List X
+chosen [] xs = []
+chosen (b ∷ bs) [] = []
+chosen (b ∷ bs) (x ∷ xs) = cond b (x ∷ chosen bs xs) (chosen bs xs)
+
+-- each answer is known but for those of the candidates, which tell theirs
+pub record Settles (kept answers : List Bool) (candidates : List Candidate) : Type 0 where
+  pub long : length kept ≡ length answers
+  pub told : All (λ (c : Candidate). slice_index_or answers c.slot false ≡ c.odd) candidates
+  pub rest : (i : ℕ) → i < length answers → (slice_index_or kept i false ≡ slice_index_or answers i false) ⊎ Contains (map (λ (c : Candidate). c.slot) candidates) i

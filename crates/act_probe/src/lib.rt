@@ -22,6 +22,7 @@ mod list;
 mod meet;
 mod point;
 mod refs;
+mod settle;
 #[cfg(test)]
 mod tests;
 mod told;

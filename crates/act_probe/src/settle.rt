@@ -1,0 +1,102 @@
+//! Candidates are tested, and the pairs of the answer kept.
+
+ghost use Rattle.std.specs.Prelude.{◌≡◌, ℕ, ◌+◌, ◌*◌, ◌<◌, ◌≤◌, ◌^◌, All, Bool, List, length, map, sum_by, take};
+ghost use Rattle.std.specs.List.Sorted.{IsPermutation};
+ghost use Rattle.act_grid.specs.declared.Layers.{Layers};
+ghost use Rattle.act_grid.specs.declared.Point.{Point};
+ghost use Rattle.act_grid.specs.declared.Settings.{Settings};
+ghost use Rattle.act_geom.specs.Inside.{is_inside};
+ghost use Rattle.act_super.specs.declared.entry.State.{State};
+ghost use Rattle.act_super.specs.declared.entry.Zone.{Zone};
+ghost use Rattle.act_super.specs.Joins.{join};
+ghost use Rattle.act_probe.specs.Reads.{body_reads, reads_of};
+ghost use Rattle.act_probe.specs.Batches.{Asks, Gathers, Settles, answered, chosen, hit_of};
+
+use crate::buffers::{Candidate, Found, Hit};
+use crate::chain::test;
+use crate::words::Words;
+use act_base::Steps;
+use std::sync::ledger::Ledger;
+
+/// Brings the candidates of each zone together.
+fn order(candidates: &mut Vec<Candidate>)
+    ensures { IsPermutation candidates.old.items candidates.new.items }
+{
+    candidates.sort_unstable_by_key(|c| c.row);
+}
+
+/// Tests a candidate by a walk along its zone's polygon.
+fn resolve_one<W: Words, L: Ledger>(
+    words: &mut W,
+    candidate: &mut Candidate,
+    reads: &mut u64,
+    steps: &mut Steps<L>,
+)
+    requires asks { (zone : Zone) × Asks (W.image words.old) zone candidate.old }
+    requires room { reads.old < 2 ^ 60 }
+    ensures same { words.new ≡ words.old }
+    ensures odd { (zone : Zone) → Asks (W.image words.old) zone candidate.old → candidate.new ≡ record candidate.old { odd = is_inside zone.shape candidate.old.point } }
+    ensures few { (zone : Zone) → Asks (W.image words.old) zone candidate.old → reads.new ≤ reads.old + body_reads zone }
+    ensures ticks { steps.new + reads.old ≡ steps.old + reads.new }
+    ensures bound { reads.new ≤ reads.old + 699052 }
+{
+    let tested = test(words, candidate.row, candidate.head, candidate.point, steps);
+    candidate.odd = tested.inside;
+    *reads += tested.reads;
+}
+
+/// Tests each candidate by a walk along its zone's polygon.
+fn resolve<W: Words, L: Ledger>(
+    words: &mut W,
+    candidates: &mut [Candidate],
+    reads: &mut u64,
+    steps: &mut Steps<L>,
+)
+    requires asks { (zones : ℕ → Zone) × All (λ c. Asks (W.image words.old) (zones c.slot) c) candidates.old }
+    requires room { reads.old + 699052 * length candidates.old < 2 ^ 60 }
+    ensures same { words.new ≡ words.old }
+    ensures odd { (zones : ℕ → Zone) → All (λ c. Asks (W.image words.old) (zones c.slot) c) candidates.old → candidates.new ≡ map (answered zones) candidates.old }
+    ensures few { (zones : ℕ → Zone) → All (λ c. Asks (W.image words.old) (zones c.slot) c) candidates.old
+        → reads.new ≤ reads.old + sum_by (λ c. body_reads (zones c.slot)) candidates.old }
+    ensures ticks { steps.new + reads.old ≡ steps.old + reads.new }
+    ensures bound { reads.new ≤ reads.old + 699052 * length candidates.old }
+{
+    for candidate in candidates.iter_mut() {
+        resolve_one(words, candidate, reads, steps);
+    }
+}
+
+/// Keeps the pairs of the candidates that were found inside.
+fn keep(kept: &mut [bool], candidates: &[Candidate])
+    requires { All (λ c. c.slot < length kept.old) candidates.now }
+    ensures { (answers : List Bool) → Settles kept.old answers candidates.now → kept.new ≡ answers }
+{
+    for candidate in candidates {
+        kept[candidate.slot as usize] = candidate.odd;
+    }
+}
+
+/// Moves the pairs that are kept to the front, and says how many there are.
+fn shift(hits: &mut [Hit], kept: &[bool]) -> usize
+    requires { length kept.now ≡ length hits.old }
+    ensures few { result ≤ length hits.old }
+    ensures front { take result hits.new ≡ chosen kept.now hits.old }
+{
+    let mut to = 0;
+    for (i, keep) in kept.iter().enumerate() {
+        hits[to] = hits[i];
+        if *keep {
+            to += 1;
+        }
+    }
+    to
+}
+
+/// Lets go of the pairs that aren't kept.
+fn compact(hits: &mut Vec<Hit>, kept: &[bool])
+    requires { length kept.now ≡ length hits.old.items }
+    ensures { hits.new.items ≡ chosen kept.now hits.old.items }
+{
+    let to = shift(hits, kept);
+    hits.truncate(to);
+}
