@@ -15,3 +15,4 @@ pub mod MetFacts
 pub mod SumFacts
 pub mod GatherFacts
 pub mod SettleFacts
+pub mod FinishFacts

@@ -1,17 +1,19 @@
 //! The pairs of a batch of points with the zones that hold them.
 
-ghost use Rattle.std.specs.Prelude.{◌≡◌, ℕ, ◌+◌, ◌*◌, ◌<◌, ◌≤◌, ◌^◌, ◌++◌, ◌∷◌, [], All, List, OnOk, length, map, sum_by};
+ghost use Rattle.std.specs.Prelude.{◌≡◌, ℕ, ◌+◌, ◌*◌, ◌<◌, ◌≤◌, ◌^◌, ◌++◌, ◌∷◌, [], All, IfOk, List, OnOk, length, map, sum_by};
 ghost use Rattle.act_grid.specs.declared.Point.{Point};
 ghost use Rattle.act_grid.specs.declared.Settings.{Settings};
 ghost use Rattle.act_super.specs.declared.entry.State.{State};
+ghost use Rattle.act_super.specs.Joins.{join};
 ghost use Rattle.act_super.specs.Stands.{Stands};
 ghost use Rattle.act_probe.specs.Reads.{reads_of};
 ghost use Rattle.act_probe.specs.Ways.{IsReached};
-ghost use Rattle.act_probe.specs.Batches.{Gathers};
+ghost use Rattle.act_probe.specs.Batches.{Gathers, hits_in};
 
 use crate::buffers::{Buffers, Found};
 use crate::group::{Way, descend_all};
 use crate::meet::meet_entry;
+use crate::settle::finish;
 use crate::words::Words;
 use act_base::Steps;
 use act_entry::Ref;
@@ -171,4 +173,33 @@ fn gather<W: Words, L: Ledger>(
         meet_group(words, root, start as u32, group, layers, buffers, steps)?;
     }
     Ok(())
+}
+
+/// Puts the pairs of each point with each zone of the layers that it is inside, by points and then in the order of the
+/// zones, in place of those of the last batch, and says how many words of rows were read. Memory may run out as the
+/// buffers grow; the pairs mean nothing then.
+pub fn probe_batch<W: Words, L: Ledger>(
+    words: &mut W,
+    root: u32,
+    points: &[Point],
+    layers: Layers,
+    buffers: &mut Buffers,
+    steps: &mut Steps<L>,
+) -> Result<u64, NoMemory>
+    // The words stand for some state.
+    requires stands { (settings : Settings) × (state : State) × Stands settings (W.image words.old) root state }
+    requires few { length points.now ≤ 8192 }
+    ensures same { words.new ≡ words.old }
+    // The pairs are those of each state for which the words stand.
+    ensures hits { OnOk result ((settings : Settings) (state : State) → Stands settings (W.image words.old) root state → hits_in buffers.new ≡ join layers state.zones points.now) }
+    // Want of memory or not, no more words are read than for the points one by one.
+    ensures few { (settings : Settings) (state : State) → Stands settings (W.image words.old) root state
+        → buffers.new.found.reads ≤ sum_by (λ p. reads_of settings state p layers) points.now }
+    ensures reads { IfOk result (λ reads. reads ≡ buffers.new.found.reads) }
+    ensures ticks { steps.new ≡ steps.old + buffers.new.found.reads }
+    ensures bound { buffers.new.found.reads < 2 ^ 48 }
+{
+    gather(words, root, points, &layers, buffers, steps)?;
+    finish(words, &mut buffers.found, steps);
+    Ok(buffers.found.reads)
 }

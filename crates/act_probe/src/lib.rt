@@ -28,6 +28,7 @@ mod tests;
 mod told;
 mod words;
 
+pub use batch::probe_batch;
 pub use buffers::{Buffers, Hit};
 pub use keys::Keys;
 pub use point::probe;

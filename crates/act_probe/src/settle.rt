@@ -100,3 +100,22 @@ fn compact(hits: &mut Vec<Hit>, kept: &[bool])
     let to = shift(hits, kept);
     hits.truncate(to);
 }
+
+/// Tests the candidates, and keeps the pairs of the answer.
+pub(crate) fn finish<W: Words, L: Ledger>(words: &mut W, found: &mut Found, steps: &mut Steps<L>)
+    requires gathers { (settings : Settings) × (state : State) × (layers : Layers) × (points : List Point) × Gathers (W.image words.old) settings state layers points 0 found.old }
+    requires room { length found.old.hits.items ≤ 2 ^ 23 }
+    requires few { found.old.reads ≤ 2 ^ 23 }
+    ensures same { words.new ≡ words.old }
+    ensures hits { (settings : Settings) (state : State) (layers : Layers) (points : List Point) → Gathers (W.image words.old) settings state layers points 0 found.old
+        → map hit_of found.new.hits.items ≡ join layers state.zones points }
+    ensures few { (settings : Settings) (state : State) (layers : Layers) (points : List Point) → Gathers (W.image words.old) settings state layers points 0 found.old
+        → found.new.reads ≤ sum_by (λ p. reads_of settings state p layers) points }
+    ensures ticks { steps.new + found.old.reads ≡ steps.old + found.new.reads }
+    ensures bound { found.new.reads < 2 ^ 48 }
+{
+    order(&mut found.candidates);
+    resolve(words, &mut found.candidates, &mut found.reads, steps);
+    keep(&mut found.kept, &found.candidates);
+    compact(&mut found.hits, &found.kept);
+}
