@@ -1,0 +1,3 @@
+pub mod Words
+pub mod Plans
+pub mod Pics
