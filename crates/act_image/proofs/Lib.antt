@@ -1,3 +1,4 @@
 pub mod Opening
 pub mod Leaves
 pub mod FillFacts
+pub mod PackFacts
