@@ -2,3 +2,4 @@ pub mod Opening
 pub mod Leaves
 pub mod FillFacts
 pub mod PackFacts
+pub mod WalkFacts
