@@ -3,3 +3,4 @@ pub mod Leaves
 pub mod FillFacts
 pub mod PackFacts
 pub mod WalkFacts
+pub mod PlaceFacts

@@ -1,6 +1,6 @@
 -- The plain copy of the shared rows, plans that change them, and which image the copy tells of.
 use Rattle.std.specs.Prelude.{◌≡◌, ℕ, suc, ◌+◌, ◌-◌, ◌^◌, ◌<◌, ◌≤◌, ◌==◌, cond, List, [], ◌∷◌, length, map, take, drop, slice_index, sum_by}
-use Rattle.std.specs.List.{flat_map}
+use Rattle.std.specs.List.{AllByRecursion, flat_map}
 use Rattle.act_grid.specs.declared.Settings.{Settings}
 use Rattle.act_grid.specs.Cell.{Address, root_cell}
 use Rattle.act_base.specs.Counting.{times}
@@ -8,7 +8,7 @@ use Rattle.act_base.specs.Sight.{Sight}
 use Rattle.act_super.specs.declared.entry.State.{State}
 use Rattle.act_super.specs.declared.entry.Zone.{Zone}
 use Rattle.act_super.specs.Grounds.{same_cell}
-use Rattle.act_super.specs.Nodes.{node_children, nodes_of}
+use Rattle.act_super.specs.Nodes.{IsNode, node_children, nodes_of}
 use Rattle.act_super.specs.Sizes.{size_of}
 use Rattle.act_super.specs.Stands.{IsBlank, IsServed, Layout, StandsBy}
 use Rattle.act_super.specs.States.{nothing}
@@ -112,6 +112,7 @@ pub record Makes (p : Pic) (plan : Planned) (old x : Sight) : Type 0 where
 -- a plan of all rows of the image of a state. The cells of its nodes are those of the state, each before those below it
 pub record IsWhole (settings : Settings) (plan : Planned) (state : State) (cells : List Address) : Type 0 where
   pub same : (f : Address → ℕ) → sum_by f cells ≡ sum_by f (nodes_of settings state)
+  pub are : AllByRecursion (IsNode settings state) cells
   pub queue : cells ≡ root_cell ∷ flat_map (node_children settings state) cells
   pub nodes : plan.nodes ≡ places_from settings state 0 cells
   pub spots : plan.spots ≡ spots_from settings state 0 1 cells
