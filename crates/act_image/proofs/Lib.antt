@@ -4,3 +4,4 @@ pub mod FillFacts
 pub mod PackFacts
 pub mod WalkFacts
 pub mod PlaceFacts
+pub mod BindFacts

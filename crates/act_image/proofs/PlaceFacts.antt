@@ -268,7 +268,8 @@ chains_at first chain (zone ∷ zones) own = (here, there zones own.0 (chains_at
         let no : (zone.key == other.key) ≡ false = ne_eqb zone.key other.key ne in
         let further : chain_first (zone ∷ zones) other.key ≡ chain_rows zone.shape + chain_first zones other.key = ap (λ b. cond b 0 (chain_rows zone.shape + chain_first zones other.key)) no in
         let e : first + chain_rows zone.shape + chain_first zones other.key ≡ first + chain_first (zone ∷ zones) other.key = omega (arith, further) in
-        let same = ap (λ n. record { key = other.key; first = n; count = chain_rows other.shape }) e in
+        let same : ◌≡◌ {A = ChainPlace} (record { key = other.key; first = first + chain_rows zone.shape + chain_first zones other.key; count = chain_rows other.shape })
+            (record { key = other.key; first = first + chain_first (zone ∷ zones) other.key; count = chain_rows other.shape }) = ap (λ n. record { key = other.key; first = n; count = chain_rows other.shape }) e in
         record {
           index = suc at.index;
           looked_up = ap (λ b. cond b (record { key = zone.key; first = first; count = chain_rows zone.shape }) (chain_of (chains_from (first + chain_rows zone.shape) zones) other.key)) no ∙ at.looked_up ∙ same;
