@@ -35,7 +35,7 @@ use Rattle.act_image.specs.Plans.{chain_first, chain_rows_from, lists_of, no_fil
 use Rattle.act_image.specs.Pics.{HaveOwnKeys, IsBound, IsFresh, IsPlan, IsWhole, Makes, Pic, Planned, Shows, chain_of, firsts_in, installed, layout_in, no_node, node_at, node_of, part_of, planned_word, rows_in}
 use Rattle.act_image.proofs.FillFacts.{ChildAt, child_entry_is, entry_is_cell, leaf_among, leaf_entry_is}
 use Rattle.act_image.proofs.Leaves.{LeafIn, each_among, each_mono, first_leaf_is, leaves_are, node_reached}
-use Rattle.act_image.proofs.PackFacts.{FewRefs, IsFilled, NoTwice, StandsAt, all_filled, ends, listed, refs_length, words_length}
+use Rattle.act_image.proofs.PackFacts.{FewRefs, IsFilled, LastIn, NoTwice, StandsAt, all_filled, ends, listed, refs_length, words_length}
 use Rattle.act_image.proofs.PlaceFacts.{ChainAt, Found, OwnKeys, count_once, count_some, found, is_cell, once_count, one_place, own_keys, part_get, part_length, part_past, place_at, places_length, some_count, spots_at, spots_length, flat_within, chains_at}
 use Rattle.act_image.proofs.WalkFacts.{node_leaves_once, nodes_are_under, size_is, under_once}
 
@@ -168,7 +168,7 @@ module _ (settings : Settings) (p : Pic) (q : Planned) (state : State) (cells : 
   all_chains = chains_at 0 0 state.zones own
 
   -- the rows of the chain of a zone
-  record ChainRows (zone : Zone) : Type 0 where
+  pub record ChainRows (zone : Zone) : Type 0 where
     pub at : ChainAt 0 0 state.zones zone
     pub rows : layout.chain zone.key ≡ part_of q.rows (length q.spots + length q.lists + chain_first state.zones zone.key) (chain_rows zone.shape)
     pub within : length q.spots + length q.lists + chain_first state.zones zone.key + chain_rows zone.shape ≤ length q.rows
@@ -255,6 +255,20 @@ module _ (settings : Settings) (p : Pic) (q : Planned) (state : State) (cells : 
   pub lists_count : (c : Address) → IsNode settings state c → length (lists_of settings state c) ≡ list_rows settings state c
   unfolding lists_of
   lists_count c node = all_filled state.zones state.trained (node_leaves settings state c) no_fill [] empty_filled (few_refs c node)
+
+  row_ends : (c : Address) (i place : ℕ) → IsNode settings state c → i < length (lists_of settings state c) → IsRest settings state c i place → length (get_or (lists_of settings state c) i []) ≤ place
+  unfolding lists_of
+  row_ends c i place node low rest =
+      by (ends state.zones state.trained i (node_leaves settings state c) no_fill [] empty_filled (few_refs c node) (node_leaves_once settings state c node (node_deep settings state c node)) low)
+    where
+      by : ((i < 0) × (length (get_or (Rattle.act_image.specs.Plans.put_lists state.zones no_fill [] (node_leaves settings state c)) i []) ≡ 0))
+          ⊎ LastIn state.zones state.trained (node_leaves settings state c) no_fill (Rattle.act_image.specs.Plans.put_lists state.zones no_fill [] (node_leaves settings state c)) i
+          → length (get_or (Rattle.act_image.specs.Plans.put_lists state.zones no_fill [] (node_leaves settings state c)) i []) ≤ place
+      by (inl none) = absurd (omega (arith, none.0))
+      by (inr last) =
+          let all = recursion_from_All _ (node_leaves settings state c) rest in
+          let own = each_among (λ leaf. 2 < count_at state leaf → (start_in settings state c leaf).row ≡ i → (start_in settings state c leaf).place + list_words (count_at state leaf) ≤ place) (node_leaves settings state c) last.leaf all last.among in
+          omega (arith, own last.many last.row, last.end)
 
   list_stands : (c leaf : Address) → IsNode settings state c → Among (node_leaves settings state c) leaf → 2 < count_at state leaf
       → StandsAt (lists_of settings state c) (count_at state leaf) (words_in (refs_on state.zones leaf)) (start_in settings state c leaf).row (start_in settings state c leaf).place
@@ -360,3 +374,236 @@ module _ (settings : Settings) (p : Pic) (q : Planned) (state : State) (cells : 
       let assoc : length q.spots + (b + length (lists_of settings state d)) ≡ length q.spots + b + length (lists_of settings state d) = omega arith in
       let tail = ap (λ m. times (part_of q.rows m (length (flat_map (lists_of settings state) ds))) r) assoc in
       omega (arith, sum_by-cons f d ds, here_is, rest, front, behind, tail)
+
+  node_sum : (r : ℕ) → sum_by (λ c. times (layout.node c ∷ layout.lists c) r) cells ≡ times (part_of q.rows 0 (length cells)) r + times (part_of q.rows (length q.spots + 0) (length (flat_map (lists_of settings state) cells))) r
+  node_sum r =
+      rows_upto r cells 0 0 (λ c. times (layout.node c ∷ layout.lists c) r)
+      (λ i low. (
+      let c = get_or cells i root_cell in
+      let a = at_node c (Rattle.act_image.proofs.PlaceFacts.at_among cells i low) in
+      let same : a.j ≡ i = same_place c a i low refl in
+      let row : layout.node c ≡ get_or q.rows (0 + i) 0 = a.row ∙ (let e : a.j ≡ 0 + i = omega (arith, same) in ap (λ k. get_or q.rows k 0) e) in
+      let lists : layout.lists c ≡ part_of q.rows (length q.spots + (0 + length (flat_map (lists_of settings state) (take i cells)))) (length (lists_of settings state c)) =
+      a.lists ∙ (let e : length q.spots + base a.j ≡ length q.spots + (0 + length (flat_map (lists_of settings state) (take i cells))) = omega (arith, ap base same) in ap (λ k. part_of q.rows k (length (lists_of settings state c))) e) in
+      λ t. times (row t ∷ lists t) r))
+      (omega (arith, many_spots, need))
+
+  -- the rows of all chains, one behind the other
+  chains_from_first : (zones : List Zone) (first : ℕ) → OwnKeys zones → Each (λ (zone : Zone). layout.chain zone.key ≡ part_of q.rows (first + chain_first zones zone.key) (chain_rows zone.shape)) zones
+      → flat_map (λ (zone : Zone). layout.chain zone.key) zones ≡ part_of q.rows first (chains_of zones)
+  chains_from_first [] first apart h = refl
+  chains_from_first (zone ∷ zones) first apart h =
+      let self : (zone.key == zone.key) ≡ true = Rattle.std.proofs.Common.eq-eqb zone.key zone.key refl in
+      let none : first + chain_first (zone ∷ zones) zone.key ≡ first = (let z : chain_first (zone ∷ zones) zone.key ≡ 0 = ap (λ b. cond b 0 (chain_rows zone.shape + chain_first zones zone.key)) self in omega (arith, z)) in
+      let here : layout.chain zone.key ≡ part_of q.rows first (chain_rows zone.shape) = h.0 ∙ ap (λ k. part_of q.rows k (chain_rows zone.shape)) none in
+      let rest = chains_from_first zones (first + chain_rows zone.shape) apart.1 (down zones apart.0 h.1) in
+      (λ i. here i ++ rest i) ∙ sym (Rattle.act_image.proofs.PlaceFacts.part_plus q.rows first (chain_rows zone.shape) (chains_of zones))
+      ∙ ap (part_of q.rows first) (sym (sum_by-cons (λ (z : Zone). chain_rows z.shape) zone zones))
+    where
+      down : (others : List Zone) → Each (λ (other : Zone). zone.key ≢ other.key) others → Each (λ (other : Zone). layout.chain other.key ≡ part_of q.rows (first + chain_first (zone ∷ zones) other.key) (chain_rows other.shape)) others
+          → Each (λ (other : Zone). layout.chain other.key ≡ part_of q.rows (first + chain_rows zone.shape + chain_first zones other.key) (chain_rows other.shape)) others
+      down [] ne h = tt
+      down (other ∷ others) ne h =
+          let no : (zone.key == other.key) ≡ false = Rattle.std.proofs.lemmas.Bool.ne_eqb zone.key other.key ne.0 in
+          let further : chain_first (zone ∷ zones) other.key ≡ chain_rows zone.shape + chain_first zones other.key = ap (λ b. cond b 0 (chain_rows zone.shape + chain_first zones other.key)) no in
+          let e : first + chain_first (zone ∷ zones) other.key ≡ first + chain_rows zone.shape + chain_first zones other.key = omega (arith, further) in
+          (h.0 ∙ ap (λ k. part_of q.rows k (chain_rows other.shape)) e, down others ne.1 h.1)
+
+  all_chain_rows : flat_map (λ (zone : Zone). layout.chain zone.key) state.zones ≡ part_of q.rows (length q.spots + length q.lists) (chains_of state.zones)
+  all_chain_rows =
+      chains_from_first state.zones (length q.spots + length q.lists) own
+      (each_mono ChainRows (λ (zone : Zone). layout.chain zone.key ≡ part_of q.rows (length q.spots + length q.lists + chain_first state.zones zone.key) (chain_rows zone.shape)) state.zones (λ zone c. c.rows) each_chain)
+
+  chain_count : (zones : List Zone) (chain : ℕ) → length (chain_rows_from chain zones) ≡ chains_of zones
+  chain_count [] chain = refl
+  chain_count (zone ∷ zones) chain =
+      omega (
+        arith,
+        length-append (Rattle.act_image.specs.Plans.rows_from chain 0 (chain_rows zone.shape)) (chain_rows_from (chain + 1) zones),
+        Rattle.act_image.proofs.PlaceFacts.rows_length chain 0 (chain_rows zone.shape),
+        chain_count zones (chain + 1),
+        sum_by-cons (λ (z : Zone). chain_rows z.shape) zone zones,
+      )
+
+  times_flat : {X : Type 0} (f : X → List ℕ) (xs : List X) (r : ℕ) → times (flat_map f xs) r ≡ sum_by (λ x. times (f x) r) xs
+  times_flat f [] r = refl
+  times_flat f (x ∷ xs) r = omega (arith, times-append (f x) (flat_map f xs) r, times_flat f xs r, sum_by-cons (λ y. times (f y) r) x xs)
+
+  whole_part : part_of q.rows 0 (length q.rows) ≡ q.rows
+  whole_part = Rattle.std.proofs.lemmas.List.take_all (length q.rows) q.rows (omega arith)
+
+  all_rows : (r : ℕ) → times q.rows r ≡ times (Rattle.act_super.specs.Stands.rows_in layout settings state) r
+  all_rows r =
+      let N = length cells in
+      let L = length (flat_map (lists_of settings state) cells) in
+      let C = chains_of state.zones in
+      let total : length q.rows ≡ N + (L + C) = omega (arith, need, many_spots, many_lists, many_chain_rows, chain_count state.zones 0) in
+      let split : times q.rows r ≡ times (part_of q.rows 0 N) r + (times (part_of q.rows (0 + N) L) r + times (part_of q.rows (0 + N + L) C) r) =
+      ap (λ v. times v r) (sym whole_part ∙ ap (part_of q.rows 0) total ∙ Rattle.act_image.proofs.PlaceFacts.part_plus q.rows 0 N (L + C))
+      ∙ times-append (part_of q.rows 0 N) (part_of q.rows (0 + N) (L + C)) r
+      ∙ ap (λ m. times (part_of q.rows 0 N) r + m) (ap (λ v. times v r) (Rattle.act_image.proofs.PlaceFacts.part_plus q.rows (0 + N) L C) ∙ times-append (part_of q.rows (0 + N) L) (part_of q.rows (0 + N + L) C) r) in
+      let nodes = times_flat (λ c. layout.node c ∷ layout.lists c) (nodes_of settings state) r in
+      let same = w.same (λ c. times (layout.node c ∷ layout.lists c) r) in
+      let own_rows = node_sum r in
+      let chains = ap (λ v. times v r) all_chain_rows in
+      let at_lists : length q.spots + 0 ≡ 0 + N = omega (arith, many_spots) in
+      let at_chains : length q.spots + length q.lists ≡ 0 + N + L = omega (arith, many_spots, many_lists) in
+      let lists_there = ap (λ k. times (part_of q.rows k L) r) at_lists in
+      let chains_there = ap (λ k. times (part_of q.rows k C) r) at_chains in
+      omega (
+        arith,
+        split,
+        times-append (flat_map (λ c. layout.node c ∷ layout.lists c) (nodes_of settings state)) (flat_map (λ (zone : Zone). layout.chain zone.key) state.zones) r,
+        nodes,
+        same,
+        own_rows,
+        chains,
+        lists_there,
+        chains_there,
+      )
+
+  -- ---- key and first row of each zone
+  abbrev first_at : ChainPlace → ℕ × ℕ
+  first_at chain = (chain.key, get_or (part_of q.rows (length q.spots + length q.lists + chain.first) chain.count) 0 0)
+
+  abbrev first_of : Zone → ℕ × ℕ
+  first_of zone = (zone.key, get_or (layout.chain zone.key) 0 0)
+
+  firsts_are : (zones : List Zone) (first : ℕ) → OwnKeys zones
+      → Each (λ (zone : Zone). layout.chain zone.key ≡ part_of q.rows (length q.spots + length q.lists + (first + chain_first zones zone.key)) (chain_rows zone.shape)) zones
+      → map first_at (Rattle.act_image.specs.Plans.chains_from first zones) ≡ map first_of zones
+  firsts_are [] first apart h = refl
+  firsts_are (zone ∷ zones) first apart h =
+      let self : (zone.key == zone.key) ≡ true = Rattle.std.proofs.Common.eq-eqb zone.key zone.key refl in
+      let none : length q.spots + length q.lists + (first + chain_first (zone ∷ zones) zone.key) ≡ length q.spots + length q.lists + first =
+      (let z : chain_first (zone ∷ zones) zone.key ≡ 0 = ap (λ b. cond b 0 (chain_rows zone.shape + chain_first zones zone.key)) self in omega (arith, z)) in
+      let here : layout.chain zone.key ≡ part_of q.rows (length q.spots + length q.lists + first) (chain_rows zone.shape) = h.0 ∙ ap (λ k. part_of q.rows k (chain_rows zone.shape)) none in
+      let rest = firsts_are zones (first + chain_rows zone.shape) apart.1 (down zones apart.0 h.1) in
+      let same : first_at (record { key = zone.key; first = first; count = chain_rows zone.shape }) ≡ first_of zone = λ i. (zone.key, get_or (sym here i) 0 0) in
+      λ i. same i ∷ rest i
+    where
+      down : (others : List Zone) → Each (λ (other : Zone). zone.key ≢ other.key) others
+          → Each (λ (other : Zone). layout.chain other.key ≡ part_of q.rows (length q.spots + length q.lists + (first + chain_first (zone ∷ zones) other.key)) (chain_rows other.shape)) others
+          → Each (λ (other : Zone). layout.chain other.key ≡ part_of q.rows (length q.spots + length q.lists + (first + chain_rows zone.shape + chain_first zones other.key)) (chain_rows other.shape)) others
+      down [] ne h = tt
+      down (other ∷ others) ne h =
+          let no : (zone.key == other.key) ≡ false = Rattle.std.proofs.lemmas.Bool.ne_eqb zone.key other.key ne.0 in
+          let further : chain_first (zone ∷ zones) other.key ≡ chain_rows zone.shape + chain_first zones other.key = ap (λ b. cond b 0 (chain_rows zone.shape + chain_first zones other.key)) no in
+          let e : length q.spots + length q.lists + (first + chain_first (zone ∷ zones) other.key) ≡ length q.spots + length q.lists + (first + chain_rows zone.shape + chain_first zones other.key) = omega (arith, further) in
+          (h.0 ∙ ap (λ k. part_of q.rows k (chain_rows other.shape)) e, down others ne.1 h.1)
+
+  abbrev first_after : ℕ → ChainPlace → ℕ × ℕ
+  first_after m chain = (chain.key, get_or (part_of q.rows (m + length q.lists + chain.first) chain.count) 0 0)
+
+  firsts_of_plan : firsts_in (installed p q) ≡ map first_of state.zones
+  unfolding firsts_in installed
+  firsts_of_plan =
+      ap (λ m. map (first_after m) q.chains) many_nodes
+      ∙ ap (map first_at) w.chains
+      ∙ firsts_are state.zones 0 own
+      (each_mono ChainRows (λ (zone : Zone). layout.chain zone.key ≡ part_of q.rows (length q.spots + length q.lists + (0 + chain_first state.zones zone.key)) (chain_rows zone.shape)) state.zones
+      (λ zone c. c.rows ∙ (let e : length q.spots + length q.lists + chain_first state.zones zone.key ≡ length q.spots + length q.lists + (0 + chain_first state.zones zone.key) = omega arith in ap (λ k. part_of q.rows k (chain_rows zone.shape)) e)) each_chain)
+
+  -- ---- the words of chains
+  module _ (x : Sight) (fresh_words : (i place : ℕ) → i < length q.rows → place < 256 → x.word (get_or q.rows i 0) place ≡ planned_word q i place) where
+    module _ (zone : Zone) (c : ChainRows zone) where
+      chain_get : (i : ℕ) → i < chain_rows zone.shape → get_or (layout.chain zone.key) i 0 ≡ get_or q.rows (length q.spots + length q.lists + (chain_first state.zones zone.key + i)) 0
+      chain_get i h =
+          let e : length q.spots + length q.lists + chain_first state.zones zone.key + i ≡ length q.spots + length q.lists + (chain_first state.zones zone.key + i) = omega arith in
+          ap (λ v. get_or v i 0) c.rows ∙ part_get q.rows (length q.spots + length q.lists + chain_first state.zones zone.key) (chain_rows zone.shape) i h ∙ ap (λ k. get_or q.rows k 0) e
+
+      chain_long : length (layout.chain zone.key) ≡ chain_rows zone.shape
+      chain_long = ap length c.rows ∙ part_length q.rows (length q.spots + length q.lists + chain_first state.zones zone.key) (chain_rows zone.shape) c.within
+
+      chain_end : (i : ℕ) → chain_rows zone.shape ≤ i → get_or (layout.chain zone.key) i 0 ≡ 0
+      chain_end i h = get_or_past (layout.chain zone.key) i 0 (omega (arith, chain_long, h))
+
+      -- the word by the chain and the body of the zone
+      row_word : (i place : ℕ) → i < chain_rows zone.shape → place < 256
+          → x.word (get_or (layout.chain zone.key) i 0) place
+          ≡ chain_word numbers (record { key = zone.key; first = chain_first state.zones zone.key; count = chain_rows zone.shape }) (body_of zone.shape) i place
+      row_word i place h small =
+          let r : get_or q.chain_rows (chain_first state.zones zone.key + i) no_row ≡ record { chain = 0 + c.at.index; row = i } = ap (λ v. get_or v (chain_first state.zones zone.key + i) no_row) w.chain_rows ∙ c.at.rows i h in
+          let index : 0 + c.at.index ≡ c.at.index = omega arith in
+          let zero_first : 0 + chain_first state.zones zone.key ≡ chain_first state.zones zone.key = omega arith in
+          let place_is : get_or q.chains (0 + c.at.index) no_chain ≡ record { key = zone.key; first = chain_first state.zones zone.key; count = chain_rows zone.shape } =
+          ap (λ k. get_or q.chains k no_chain) index ∙ ap (λ v. get_or v c.at.index no_chain) w.chains ∙ c.at.place ∙ (λ t. record { key = zone.key; first = zero_first t; count = chain_rows zone.shape }) in
+          let body_is : get_or q.bodies (0 + c.at.index) [] ≡ body_of zone.shape = ap (λ k. get_or q.bodies k []) index ∙ ap (λ v. get_or v c.at.index []) w.bodies ∙ c.at.body in
+          ap (λ k. x.word k place) (chain_get i h)
+          ∙ chain_row_word x fresh_words (chain_first state.zones zone.key + i) place (omega (arith, c.at.within, h, many_chain_rows)) small
+          ∙ ap (λ (v : Rattle.act_image.specs.declared.chains.ChainRow.ChainRow). chain_word numbers (get_or q.chains v.chain no_chain) (get_or q.bodies v.chain []) v.row place) r
+          ∙ (λ t. chain_word numbers (place_is t) (body_is t) i place)
+
+      -- the number of the next row
+      next_is : (i : ℕ) → cond (nat_lt (i + 1) (chain_rows zone.shape)) (chain_number numbers (chain_first state.zones zone.key + (i + 1))) 0 ≡ get_or (layout.chain zone.key) (i + 1) 0
+      next_is i = by (sides (i + 1) (chain_rows zone.shape))
+        where
+          sides : (a b : ℕ) → (a < b) ⊎ (b ≤ a)
+          sides a b = grind arith
+
+          by : (i + 1 < chain_rows zone.shape) ⊎ (chain_rows zone.shape ≤ i + 1)
+              → cond (nat_lt (i + 1) (chain_rows zone.shape)) (chain_number numbers (chain_first state.zones zone.key + (i + 1))) 0 ≡ get_or (layout.chain zone.key) (i + 1) 0
+          by (inl low) =
+              cond_true _ _ _ (lt_is (i + 1) (chain_rows zone.shape) low)
+              ∙ number (length q.spots + length q.lists + (chain_first state.zones zone.key + (i + 1))) (omega (arith, c.within, low)) ∙ sym (chain_get (i + 1) low)
+          by (inr high) = cond_false _ _ _ (ge_is (i + 1) (chain_rows zone.shape) high) ∙ sym (chain_end (i + 1) high)
+
+      pub has_chain : HasChain x (layout.chain zone.key) zone
+      has_chain = record {
+        size = chain_long;
+        first = (
+          let none : 0 + 1 ≡ 1 = omega arith in
+          row_word 0 0 (some_rows zone) (omega arith) ∙ ap (λ m. zone.key * 2 ^ 32 + m) (next_is 0 ∙ ap (λ k. get_or (layout.chain zone.key) k 0) none));
+        next = λ i some low. (
+          let no : (i == 0) ≡ false = Rattle.std.proofs.lemmas.Bool.ne_eqb i 0 (λ e. omega (arith, e, some)) in
+          let zero_key : (v : ℕ) → 0 * 2 ^ 32 + v ≡ v = λ v. omega arith in
+          row_word i 0 (omega (arith, low, chain_long)) (omega arith)
+          ∙ ap (λ b. cond b zone.key 0 * 2 ^ 32 + cond (nat_lt (i + 1) (chain_rows zone.shape)) (chain_number numbers (chain_first state.zones zone.key + (i + 1))) 0) no
+          ∙ zero_key _ ∙ next_is i);
+        body = λ i low. (
+          let row_low : i / 255 < chain_rows zone.shape = omega (arith, low, chain_long) in
+          let next : 1 + i % 255 ≡ suc (i % 255) = omega arith in
+          let back : i / 255 * 255 + i % 255 ≡ i = omega arith in
+          row_word (i / 255) (1 + i % 255) row_low (omega arith)
+          ∙ ap (chain_word numbers (record { key = zone.key; first = chain_first state.zones zone.key; count = chain_rows zone.shape }) (body_of zone.shape) (i / 255)) next
+          ∙ ap (λ k. get_or (body_of zone.shape) k 0) back);
+      }
+
+    -- ---- all words
+    entry_words : (c : Address) (i : ℕ) → IsNode settings state c → i < 256 → x.word (layout.node c) i ≡ entry_word (entry_at layout settings state c i)
+    entry_words c i node small =
+        let a = at_node c (node_among c node) in
+        ap (λ k. x.word k i) a.row ∙ node_word x fresh_words a.j i a.within small
+        ∙ ap (λ v. entry_word (placed_entry numbers (entry_in v i))) a.spots ∙ ap entry_word (entry_same c a i node small)
+
+    row_of_list : (c : Address) (a : AtNode c) (r place : ℕ) → r < length (lists_of settings state c) → place < 256
+        → x.word (get_or (layout.lists c) r 0) place ≡ placed_word numbers (get_or (get_or (lists_of settings state c) r []) place (list.Count 0))
+    row_of_list c a r place h small =
+        ap (λ k. x.word k place) (list_number_is c a r h) ∙ list_word x fresh_words (base a.j + r) place (omega (arith, list_low c a, h)) small
+        ∙ ap (λ v. placed_word numbers (get_or v place (list.Count 0))) (list_at c a r h)
+
+    list_words_are : (c : Address) (leaf : Address) → IsNode settings state c → Among (node_leaves settings state c) leaf → 2 < count_at state leaf → HasList x layout settings state c leaf
+    list_words_are c leaf node among many =
+        let a = at_node c (node_among c node) in
+        let s = list_stands c leaf node among many in
+        let st = start_in settings state c leaf in
+        let long : length (words_of (refs_in layout (refs_of state.zones leaf))) ≡ length (words_in (refs_on state.zones leaf)) =
+        sym (ap length (placed_words numbers (refs_on state.zones leaf) ∙ ap words_of (refs_are leaf))) ∙ length-map (words_in (refs_on state.zones leaf)) (placed_word numbers) in
+        let words : length (words_in (refs_on state.zones leaf)) ≡ list_words (count_at state leaf) = words_length (refs_on state.zones leaf) ∙ ap list_words (refs_length state.zones leaf) in
+        record {
+          row = omega (arith, s.within, list_long c a);
+          words = record {
+            within = omega (arith, long, words, s.fits);
+            each = λ j low. (
+              let there : j < length (words_in (refs_on state.zones leaf)) = omega (arith, low, long) in
+              row_of_list c a st.row (st.place + j) s.within (omega (arith, there, words, s.fits)) ∙ ap (placed_word numbers) (s.each j there)
+              ∙ placed_at numbers (refs_on state.zones leaf) j there ∙ ap (λ v. get_or (words_of v) j 0) (refs_are leaf));
+          };
+        }
+
+    rest_words : (c : Address) (i place : ℕ) → IsNode settings state c → i < length (layout.lists c) → place < 256 → IsRest settings state c i place → x.word (get_or (layout.lists c) i 0) place ≡ 0
+    rest_words c i place node low small rest =
+        let a = at_node c (node_among c node) in
+        let there : i < length (lists_of settings state c) = omega (arith, low, list_long c a) in
+        let past : length (get_or (lists_of settings state c) i []) ≤ place = row_ends c i place node there rest in
+        row_of_list c a i place there small ∙ ap (placed_word numbers) (get_or_past (get_or (lists_of settings state c) i []) place (list.Count 0) past)

@@ -212,7 +212,7 @@ own_keys (zone ∷ zones) h = (
   own_keys zones (λ key. omega (arith, h key, Rattle.act_base.proofs.Times.times_there zone.key key (map (λ (other : Zone). other.key) zones))),
 )
 
-rows_length : (chain row n : ℕ) → length (rows_from chain row n) ≡ n
+pub rows_length : (chain row n : ℕ) → length (rows_from chain row n) ≡ n
 rows_length chain row zero = refl
 rows_length chain row (suc n) = ap suc (rows_length chain (row + 1) n)
 
