@@ -607,3 +607,106 @@ module _ (settings : Settings) (p : Pic) (q : Planned) (state : State) (cells : 
         let there : i < length (lists_of settings state c) = omega (arith, low, list_long c a) in
         let past : length (get_or (lists_of settings state c) i []) ≤ place = row_ends c i place node there rest in
         row_of_list c a i place there small ∙ ap (placed_word numbers) (get_or_past (get_or (lists_of settings state c) i []) place (list.Count 0) past)
+
+  -- ---- the root and the number of rows
+  root_at : AtNode root_cell
+  root_at = at_node root_cell (subst (λ v. Among v root_cell) (sym w.queue) (inl refl))
+
+  some_cells : 0 < length cells
+  some_cells = omega (arith, ap length w.queue)
+
+  root_first : layout.node root_cell ≡ q.root
+  root_first =
+      let first : get_or cells 0 root_cell ≡ root_cell = ap (λ v. get_or v 0 root_cell) w.queue in
+      root_at.row ∙ ap (λ k. get_or q.rows k 0) (same_place root_cell root_at 0 some_cells first) ∙ sym root
+
+  sum_nodes : (ds : List Address) → Each (IsNode settings state) ds → sum_by (λ c. 1 + list_rows settings state c) ds ≡ length ds + length (flat_map (lists_of settings state) ds)
+  sum_nodes [] h = refl
+  sum_nodes (d ∷ ds) h =
+      omega (
+        arith,
+        sum_by-cons (λ c. 1 + list_rows settings state c) d ds,
+        sum_nodes ds h.1,
+        lists_count d h.0,
+        length-append (lists_of settings state d) (flat_map (lists_of settings state) ds),
+      )
+
+  all_sized : length q.rows ≡ size_of settings state
+  all_sized =
+      omega (
+        arith,
+        need,
+        many_spots,
+        many_lists,
+        many_chain_rows,
+        chain_count state.zones 0,
+        size_is settings state,
+        w.same (λ c. 1 + list_rows settings state c),
+        sum_nodes cells w.are,
+      )
+
+  installed_rows : rows_in (installed p q) ≡ q.rows
+  unfolding rows_in installed
+  installed_rows = refl
+
+  installed_root : (installed p q).root ≡ q.root
+  unfolding installed
+  installed_root = refl
+
+  pub stands : (old x : Sight) → Makes p q old x → Shows settings (installed p q) x state
+  stands old x m =
+      let rows : x.rows ≡ q.rows = m.rows ∙ installed_rows in
+      record {
+        served = served;
+        rows = m.rows;
+        firsts = m.firsts;
+        by_rows = record {
+          top = root_first ∙ sym installed_root;
+          entries = λ c i node small. entry_words x m.fresh c i node small;
+          lists = λ c i node small whole many. list_words_are x m.fresh c (first_leaf settings state (entry_cell c i)) node (leaf_among settings state c node i small whole) many;
+          list_rows = λ c node. list_long c (at_node c (node_among c node)) ∙ lists_count c node;
+          rest = λ c i place node low small rest. rest_words x m.fresh c i place node low small rest;
+          chains = All-from_recursion (λ (zone : Zone). HasChain x (layout.chain zone.key) zone) state.zones
+          (each_mono ChainRows (λ (zone : Zone). HasChain x (layout.chain zone.key) zone) state.zones (λ zone c. has_chain x m.fresh zone c) each_chain);
+          firsts = m.firsts ∙ firsts_of_plan;
+          rows = λ r. ap (λ v. times v r) rows ∙ all_rows r;
+          once = λ r. (let same = ap (λ v. times v r) rows in omega (arith, same, fresh.once r));
+          low = λ r some. fresh.low r (subst (λ v. 0 < times v r) rows some);
+        };
+      }
+
+  pub rooted : 0 < times (rows_in (installed p q)) q.root
+  rooted =
+      let there = times_get q.rows 0 0 (omega (arith, need, many_spots, some_cells)) in
+      subst (λ v. 0 < times v q.root) (sym installed_rows) (subst (λ k. 0 < times q.rows k) (sym root) there)
+
+-- a plan that gets its rows
+pub bound : (settings : Settings) (p : Pic) (old q : Planned) (state new : State) → IsPlan settings p old state new → IsFresh p q.rows → length q.rows ≡ old.need → q.need ≡ old.need → q.root ≡ get_or q.rows 0 0
+    → q.nodes ≡ old.nodes → q.spots ≡ old.spots → q.lists ≡ old.lists → q.chains ≡ old.chains → q.bodies ≡ old.bodies → q.chain_rows ≡ old.chain_rows → q.gone ≡ old.gone → IsBound settings p q state new
+bound settings p old q state new plan fresh long needs root nodes spots lists chains bodies chain_rows gone =
+    let whole : IsWhole settings q new plan.cells = record {
+      same = plan.whole.same;
+      are = plan.whole.are;
+      queue = plan.whole.queue;
+      nodes = nodes ∙ plan.whole.nodes;
+      spots = spots ∙ plan.whole.spots;
+      lists = lists ∙ plan.whole.lists;
+      chains = chains ∙ plan.whole.chains;
+      bodies = bodies ∙ plan.whole.bodies;
+      chain_rows = chain_rows ∙ plan.whole.chain_rows;
+    } in
+    let need : length q.rows ≡ length q.spots + length q.lists + length q.chain_rows = omega (arith, long, plan.need, ap length spots, ap length lists, ap length chain_rows) in
+    let rows = installed_rows settings p q new plan.cells whole plan.served plan.keys fresh need root in
+    let lacks : q.gone ≡ rows_in p = gone ∙ plan.gone in
+    record {
+      need = long ∙ sym needs;
+      few = omega (arith, needs, plan.few);
+      once = fresh.once;
+      balance = λ r. omega (arith, ap (λ v. times v r) rows, ap (λ v. times v r) lacks);
+      count = omega (arith, ap length rows, ap length lacks);
+      held = λ r. omega (arith, ap (λ v. times v r) lacks);
+      sized = ap length rows ∙ all_sized settings p q new plan.cells whole plan.served plan.keys fresh need root;
+      rooted = rooted settings p q new plan.cells whole plan.served plan.keys fresh need root;
+      shows = λ before x shown m. stands settings p q new plan.cells whole plan.served plan.keys fresh need root before x m;
+      top = installed_root settings p q new plan.cells whole plan.served plan.keys fresh need root;
+    }
