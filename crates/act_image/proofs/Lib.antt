@@ -5,3 +5,4 @@ pub mod PackFacts
 pub mod WalkFacts
 pub mod PlaceFacts
 pub mod BindFacts
+pub mod WordFacts

@@ -86,10 +86,14 @@ layout_in p = record {
   chain = λ key. chain_in p (chain_of p.chains key);
 }
 
+-- the numbers of the rows of a plan
+abbrev pub numbers_of : Planned → Numbers
+numbers_of p = record { nodes = length p.spots; lists = length p.lists; rows = p.rows }
+
 -- the word of the i-th new row at a place
 unfoldable pub planned_word : Planned → ℕ → ℕ → ℕ
 planned_word p i place =
-    word_of (record { nodes = length p.spots; lists = length p.lists; rows = p.rows }) p.spots p.lists p.chains p.bodies p.chain_rows i place
+    word_of (numbers_of p) p.spots p.lists p.chains p.bodies p.chain_rows i place
 
 -- the copy after a bound plan
 unfoldable pub installed : Pic → Planned → Pic
