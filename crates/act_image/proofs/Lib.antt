@@ -6,3 +6,4 @@ pub mod WalkFacts
 pub mod PlaceFacts
 pub mod BindFacts
 pub mod WordFacts
+pub mod BuildFacts

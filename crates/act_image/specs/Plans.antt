@@ -1,6 +1,6 @@
 -- What a plan of all rows holds for a state.
-use Rattle.std.specs.Prelude.{◌≡◌, ℕ, zero, suc, ◌+◌, ◌-◌, cond, ◌==◌, nat_lt, List, [], ◌∷◌, ◌++◌, Option, Some, None, length, map}
-use Rattle.std.specs.List.{flat_map}
+use Rattle.std.specs.Prelude.{◌≡◌, ℕ, zero, suc, ◌+◌, ◌-◌, ◌%◌, ◌≤◌, cond, ◌==◌, nat_lt, List, [], ◌∷◌, ◌++◌, Option, Some, None, length, map, take, drop}
+use Rattle.std.specs.List.{AllByRecursion, flat_map, sum_by}
 use Rattle.act_grid.specs.declared.Settings.{Settings}
 use Rattle.act_grid.specs.Cell.{Address, entries_filled, first_entry, root_cell}
 use Rattle.act_geom.specs.Body.{body_of}
@@ -10,17 +10,20 @@ use Rattle.act_entry.specs.declared.entry.Entry.TheVariants as entry
 use Rattle.act_super.specs.declared.entry.State.{State}
 use Rattle.act_super.specs.declared.entry.Zone.{Zone}
 use Rattle.act_super.specs.declared.refs.ZoneRef.{ZoneRef}
-use Rattle.act_super.specs.Nodes.{Start, node_children, node_leaves, start_of}
+use Rattle.act_super.specs.Nodes.{IsNode, Start, ground_of, node_children, node_leaves, nodes_of, nodes_within, start_of}
+use Rattle.act_super.specs.Grounds.{some_asks}
 use Rattle.act_super.specs.Packs.{list_words, put_leaf}
 use Rattle.act_super.specs.Sizes.{chain_rows, refs_of}
 use Rattle.act_super.specs.Stands.{entry_for}
 use Rattle.act_image.specs.declared.chains.ChainPlace.{ChainPlace}
 use Rattle.act_image.specs.declared.chains.ChainRow.{ChainRow}
+use Rattle.act_image.specs.declared.chains.Chains.{Chains}
 use Rattle.act_image.specs.declared.lists.Fill.{Fill}
 use Rattle.act_image.specs.declared.lists.ListWord.{ListWord}
 use Rattle.act_image.specs.declared.lists.ListWord.TheVariants as list
 use Rattle.act_image.specs.declared.nodes.NodePlace.{NodePlace}
 use Rattle.act_image.specs.declared.spots.Spot.{Spot}
+use Rattle.act_image.specs.declared.walk.Nodes.{Nodes}
 
 -- ---- chains
 -- where the chain of a key begins among the rows of all chains
@@ -46,7 +49,22 @@ abbrev pub chain_rows_from : ℕ → List Zone → List ChainRow
 chain_rows_from chain [] = []
 chain_rows_from chain (zone ∷ zones) = rows_from chain 0 (chain_rows zone.shape) ++ chain_rows_from (chain + 1) zones
 
+-- the chains of these zones
+pub record IsChains (zones : List Zone) (c : Chains) : Type 0 where
+  pub places : c.places.items ≡ chains_from 0 zones
+  pub bodies : c.bodies.items ≡ bodies_of zones
+  pub rows : c.rows.items ≡ chain_rows_from 0 zones
+
+-- where the chain of a key begins, by the first place with the key
+abbrev pub place_first : List ChainPlace → ℕ → ℕ
+place_first [] key = 0
+place_first (place ∷ places) key = cond (place.key == key) place.first (place_first places key)
+
 -- ---- references
+-- references by where the chains of their keys begin
+abbrev pub found_refs : List ChainPlace → List ZoneRef → List Ref
+found_refs places refs = map (λ (r : ZoneRef). record { row = place_first places r.key; hit = r.hit }) refs
+
 -- a reference by where the chain of its zone begins
 abbrev pub slot_ref : List Zone → ZoneRef → Ref
 slot_ref zones r = record { row = chain_first zones r.key; hit = r.hit }
@@ -135,3 +153,31 @@ spots_from settings state base slot [] = []
 spots_from settings state base slot (c ∷ cells) =
     spots_of settings state base slot c
     ∷ spots_from settings state (base + length (lists_of settings state c)) (slot + length (node_children settings state c)) cells
+
+-- ---- the walk over all nodes
+-- a leaf of a node of this level
+pub record IsLeafOf (level : ℕ) (leaf : Address) : Type 0 where
+  pub step : level % 4 ≡ 0
+  pub deep : level ≤ 24
+  pub above : level ≤ leaf.level
+  pub near : leaf.level ≤ level + 4
+
+-- the cell and all nodes under it
+abbrev pub nodes_from : Settings → State → Address → List Address
+nodes_from settings state c =
+    cond (some_asks (ground_of settings state) c state.zones) (nodes_within (ground_of settings state) (28 - c.level) state.zones c) (c ∷ [])
+
+-- the first k cells are walked, and their child nodes are among the cells
+pub record IsWalk (settings : Settings) (state : State) (k : ℕ) (nodes : Nodes) : Type 0 where
+  pub within : k ≤ length nodes.cells.items
+  pub same : (f : Address → ℕ)
+      → sum_by f (take k nodes.cells.items) + sum_by (λ c. sum_by f (nodes_from settings state c)) (drop k nodes.cells.items) ≡ sum_by f (nodes_of settings state)
+  pub are : AllByRecursion (IsNode settings state) nodes.cells.items
+  pub queue : nodes.cells.items ≡ root_cell ∷ flat_map (node_children settings state) (take k nodes.cells.items)
+  pub places : nodes.places.items ≡ places_from settings state 0 (take k nodes.cells.items)
+  pub spots : nodes.spots.items ≡ spots_from settings state 0 1 (take k nodes.cells.items)
+  pub lists : nodes.lists.items ≡ flat_map (lists_of settings state) (take k nodes.cells.items)
+
+-- all are walked
+abbrev pub IsWalked : Settings → State → Nodes → Type 0
+IsWalked settings state nodes = IsWalk settings state (length nodes.cells.items) nodes

@@ -17,11 +17,13 @@
 #![tactic(auto)]
 
 mod chains;
+mod fits;
 mod image;
 mod lists;
 mod nodes;
 mod plan;
 mod spots;
+mod walk;
 
 pub use image::Image;
 pub use plan::Plan;

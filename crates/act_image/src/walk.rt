@@ -1,0 +1,98 @@
+//! The nodes of the state after a prepared change, from the root down.
+
+ghost use Rattle.std.specs.Prelude.{true, ◌≡◌, ◌+◌, ◌%◌, ◌<◌, ◌≤◌, ◌^◌, ◌++◌, [], ◌∷◌, List, All, IfOk, OnOk, length, map, slice_index_or};
+ghost use Rattle.act_grid.specs.Cell.{root_cell};
+ghost use Rattle.act_super.specs.declared.entry.Zone.{Zone};
+ghost use Rattle.act_super.specs.declared.refs.ZoneRef.{ZoneRef as ZoneReference};
+ghost use Rattle.act_super.specs.Nodes.{IsNode, node_children, node_leaves};
+ghost use Rattle.act_super.specs.Sizes.{refs_of};
+ghost use Rattle.act_super.specs.Stands.{entry_for};
+ghost use Rattle.act_super.specs.States.{IsFor, after, changed, has_key};
+ghost use Rattle.act_image.specs.Plans.{IsChains, IsLeafOf, IsWalk, IsWalked, child_spots, filled, found_refs, leaf_spots, lists_of, no_fill, put_list, put_lists, refs_on, slot_refs, spot_at, start_at};
+
+use crate::chains::Chains;
+use crate::fits::fits;
+use crate::lists::{Fill, ListRow, put_list};
+use crate::nodes::NodePlace;
+use crate::spots::{Spot, Spots};
+use act_entry::{Entry, Ref};
+use act_grid::{Cell, NoMemory};
+use act_super::{Next, Super, ZoneRef};
+use std::alloc::{AllocError, Global};
+
+/// The nodes so far: their cells, the root first and the child nodes of each behind those of the node before, and for the
+/// first of them their list rows, their entries and what stands in their list rows.
+#[derive(Debug, Drop)]
+pub(crate) struct Nodes {
+    pub cells: Vec<Cell>,
+    pub places: Vec<NodePlace>,
+    pub spots: Vec<Spots>,
+    pub lists: Vec<ListRow>,
+}
+
+/// What stands in one node, and in its list rows.
+#[derive(Debug, Drop)]
+struct NodeParts {
+    spots: Vec<Spot>,
+    rows: Vec<ListRow>,
+}
+
+// The references by where the chains of their zones begin.
+fn slots(alloc: Global, chains: &Chains, refs: &[ZoneRef]) -> Result<Vec<Ref>, AllocError>
+    ensures { IfOk result (λ slots. slots.items ≡ found_refs chains.now.places.items refs.now) }
+{
+    let mut slots = Vec::with_capacity(alloc, refs.len())?;
+    for r in refs {
+        slots.push(Ref {
+            row: chains.first(r.key),
+            hit: r.hit,
+        })?;
+    }
+    Ok(slots)
+}
+
+// The entry of references, where a list of them would begin there.
+fn entry_for(refs: &[Ref], row: u32, place: u8) -> Entry
+    ensures { result ≡ entry_for refs.now row place }
+{
+    match refs.len() {
+        0 => Entry::Empty,
+        1 => Entry::One(refs[0]),
+        2 => Entry::Two(refs[0], refs[1]),
+        _ => Entry::Table { row, place },
+    }
+}
+
+// What a leaf adds to its node, whose list rows begin at one.
+fn leaf_part(
+    alloc: Global,
+    state: &Super,
+    next: &Next,
+    chains: &Chains,
+    level: u32,
+    base: u32,
+    leaf: Cell,
+    fill: &mut Fill,
+    rows: &mut Vec<ListRow>,
+) -> Result<Spot, NoMemory>
+    requires prepared { IsFor state.now.settings state.now.state next.now }
+    requires chains { IsChains (changed state.now.state.zones next.now.entry) chains.now }
+    requires leaf { IsLeafOf level leaf }
+    ensures spot { let zones = changed state.now.state.zones next.now.entry in let start = start_at fill.old (length (refs_of zones leaf)) in IfOk result (λ spot. spot ≡ spot_at level leaf (entry_for (refs_on zones leaf) (base + start.row) start.place)) }
+    ensures fill { let zones = changed state.now.state.zones next.now.entry in IfOk result (λ spot. fill.new ≡ filled fill.old (length (refs_of zones leaf))) }
+    ensures rows { let zones = changed state.now.state.zones next.now.entry in IfOk result (λ spot. rows.new.items ≡ put_list fill.old (length (refs_of zones leaf)) rows.old.items (refs_on zones leaf)) }
+{
+    let refs = next.refs(alloc, state, leaf)?;
+    let refs = slots(alloc, chains, refs.as_slice())?;
+    let count = fits(refs.len())?;
+    let start = fill.start(count);
+    let row = fits(base as usize + start.row as usize)?;
+    put_list(alloc, rows, *fill, count, refs.as_slice())?;
+    fill.put(count)?;
+    let slot = leaf.slot(level);
+    Ok(Spot {
+        first: slot.first,
+        count: slot.count,
+        entry: entry_for(refs.as_slice(), row, start.place),
+    })
+}
