@@ -1,6 +1,6 @@
 //! The nodes of the state after a prepared change, from the root down.
 
-ghost use Rattle.std.specs.Prelude.{true, ◌≡◌, ◌+◌, ◌%◌, ◌<◌, ◌≤◌, ◌^◌, ◌++◌, [], ◌∷◌, List, All, IfOk, OnOk, length, map, slice_index_or};
+ghost use Rattle.std.specs.Prelude.{true, ◌≡◌, ◌+◌, ◌%◌, ◌<◌, ◌≤◌, ◌^◌, ◌++◌, [], ◌∷◌, ℕ, List, All, IfOk, OnOk, length, map, slice_index_or};
 ghost use Rattle.act_grid.specs.Cell.{root_cell};
 ghost use Rattle.act_super.specs.declared.entry.Zone.{Zone};
 ghost use Rattle.act_super.specs.declared.refs.ZoneRef.{ZoneRef as ZoneReference};
@@ -95,4 +95,145 @@ fn leaf_part(
         count: slot.count,
         entry: entry_for(refs.as_slice(), row, start.place),
     })
+}
+
+// What the leaves add to their node.
+fn leaf_parts(
+    alloc: Global,
+    state: &Super,
+    next: &Next,
+    chains: &Chains,
+    level: u32,
+    base: u32,
+    leaves: &[Cell],
+) -> Result<NodeParts, NoMemory>
+    requires prepared { IsFor state.now.settings state.now.state next.now }
+    requires chains { IsChains (changed state.now.state.zones next.now.entry) chains.now }
+    requires leaves { (k : ℕ) → k < length leaves.now → IsLeafOf level (slice_index_or leaves.now k root_cell) }
+    ensures spots { IfOk result (λ parts. parts.spots.items ≡ leaf_spots (changed state.now.state.zones next.now.entry) level base no_fill leaves.now) }
+    ensures rows { IfOk result (λ parts. parts.rows.items ≡ put_lists (changed state.now.state.zones next.now.entry) no_fill [] leaves.now) }
+{
+    let mut spots = Vec::new(alloc);
+    let mut rows = Vec::new(alloc);
+    let mut fill = Fill::empty();
+    for i in 0..leaves.len() {
+        let spot = leaf_part(
+            alloc,
+            state,
+            next,
+            chains,
+            level,
+            base,
+            leaves[i],
+            &mut fill,
+            &mut rows,
+        )?;
+        spots.push(spot)?;
+    }
+    Ok(NodeParts { spots, rows })
+}
+
+// Puts the entries of child nodes, which stand one behind the other from one on.
+fn push_children(
+    spots: &mut Vec<Spot>,
+    level: u32,
+    slot: u32,
+    children: &[Cell],
+) -> Result<(), NoMemory>
+    requires { (k : ℕ) → k < length children.now → IsLeafOf level (slice_index_or children.now k root_cell) }
+    ensures { OnOk result (spots.new.items ≡ spots.old.items ++ child_spots level slot children.now) }
+{
+    for i in 0..children.len() {
+        let at = fits(slot as usize + i)?;
+        let filled = children[i].slot(level);
+        spots.push(Spot {
+            first: filled.first,
+            count: filled.count,
+            entry: Entry::Child(at),
+        })?;
+    }
+    Ok(())
+}
+
+impl Nodes {
+    ghost use Rattle.std.specs.Prelude.{◌≡◌, ◌+◌, ◌<◌, IfOk, OnOk, length};
+    ghost use Rattle.act_super.specs.States.{IsFor, after, changed};
+    ghost use Rattle.act_image.specs.Plans.{IsChains, IsWalk, IsWalked};
+
+    /// All nodes of the state after the change. It asks once for each node.
+    pub fn walk(
+        alloc: Global,
+        state: &Super,
+        next: &Next,
+        chains: &Chains,
+    ) -> Result<Nodes, NoMemory>
+        requires prepared { IsFor state.now.settings state.now.state next.now }
+        requires chains { IsChains (changed state.now.state.zones next.now.entry) chains.now }
+        ensures { IfOk result (IsWalked state.now.settings (after state.now.settings state.now.state next.now.entry)) }
+    {
+        let mut nodes = Nodes::root(alloc, state, next)?;
+        for k in 0..u32::MAX {
+            if k as usize == nodes.cells.len() {
+                return Ok(nodes);
+            }
+            nodes.step(alloc, state, next, chains, k)?;
+        }
+        Err(NoMemory)
+    }
+
+    // The root, which isn't walked yet.
+    fn root(alloc: Global, state: &Super, next: &Next) -> Result<Nodes, NoMemory>
+        ensures { IfOk result (IsWalk state.now.settings (after state.now.settings state.now.state next.now.entry) 0) }
+    {
+        let mut cells = Vec::new(alloc);
+        cells.push(Cell::root())?;
+        Ok(Nodes {
+            cells,
+            places: Vec::new(alloc),
+            spots: Vec::new(alloc),
+            lists: Vec::new(alloc),
+        })
+    }
+
+    // Walks the k-th node.
+    fn step(
+        &mut self,
+        alloc: Global,
+        state: &Super,
+        next: &Next,
+        chains: &Chains,
+        k: u32,
+    ) -> Result<(), NoMemory>
+        requires prepared { IsFor state.now.settings state.now.state next.now }
+        requires chains { IsChains (changed state.now.state.zones next.now.entry) chains.now }
+        requires walk { IsWalk state.now.settings (after state.now.settings state.now.state next.now.entry) k self.old }
+        requires within { k < length self.old.cells.items }
+        ensures { OnOk result (IsWalk state.now.settings (after state.now.settings state.now.state next.now.entry) (k + 1) self.new) }
+    {
+        let cell = self.cells[k as usize];
+        let base = fits(self.lists.len())?;
+        let slot = fits(self.cells.len())?;
+        let node = next.node(alloc, state, cell)?;
+        let parts = leaf_parts(
+            alloc,
+            state,
+            next,
+            chains,
+            cell.level(),
+            base,
+            node.leaves.as_slice(),
+        )?;
+        let NodeParts { mut spots, mut rows } = parts;
+        push_children(&mut spots, cell.level(), slot, node.children.as_slice())?;
+        let count = fits(rows.len())?;
+        self.places.push(NodePlace {
+            cell,
+            first: base,
+            count,
+        })?;
+        self.spots.push(Spots::from_vec(spots))?;
+        self.lists.append(&mut rows)?;
+        self.cells.extend_from_slice(node.children.as_slice())?;
+        Ok(())
+    }
 }
