@@ -7,3 +7,4 @@ pub mod PlaceFacts
 pub mod BindFacts
 pub mod WordFacts
 pub mod BuildFacts
+pub mod StepFacts

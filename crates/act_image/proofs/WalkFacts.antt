@@ -265,7 +265,7 @@ module _ {X : Type 0} (g : Ground X) (items : List X) where
   node_first c step low = first_at (27 - c.level) c step low (omega (arith, low))
 
 -- ---- rows
-sum_flat : {X Y : Type 0} (f : Y → ℕ) (h : X → List Y) (xs : List X) → sum_by f (flat_map h xs) ≡ sum_by (λ x. sum_by f (h x)) xs
+pub sum_flat : {X Y : Type 0} (f : Y → ℕ) (h : X → List Y) (xs : List X) → sum_by f (flat_map h xs) ≡ sum_by (λ x. sum_by f (h x)) xs
 sum_flat f h [] = refl
 sum_flat f h (x ∷ xs) =
     sum_by-append f (h x) (flat_map h xs) ∙ (ap (λ n. sum_by f (h x) + n) (sum_flat f h xs) ∙ sym (sum_by-cons (λ x. sum_by f (h x)) x xs))
