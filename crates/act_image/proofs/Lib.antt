@@ -8,3 +8,4 @@ pub mod BindFacts
 pub mod WordFacts
 pub mod BuildFacts
 pub mod StepFacts
+pub mod AfterFacts

@@ -16,6 +16,7 @@
 //! ```
 #![tactic(auto)]
 
+mod after;
 mod chains;
 mod fits;
 mod image;

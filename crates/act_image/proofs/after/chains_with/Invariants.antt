@@ -1,0 +1,13 @@
+use Rattle.std.proofs.Common.{◌≡◌, ◌++◌, ◌≤◌, ◌-◌, List, drop, length}
+use Rattle.act_super.specs.States.{with_zone}
+use Rattle.act_image.proofs.AfterFacts.{ChainsUpTo}
+use Rattle.act_image.proofs.after.chains_with.Given as goal
+
+abbrev pub invariant-loop-i : goal.invariant-loop-i
+invariant-loop-i l = record {
+  within : l.i ≤ length l.state.state.zones;
+  put : ChainsUpTo (with_zone (record { key = l.key; shape = l.shape }) l.state.state.zones) (with_zone (record { key = l.key; shape = l.shape }) (drop l.i l.state.state.zones)) l.chains;
+}
+
+abbrev pub decreases-loop-i : goal.decreases-loop-i
+decreases-loop-i l = length l.state.state.zones - l.i
