@@ -37,6 +37,7 @@ use Rattle.act_image.proofs.FillFacts.{ChildAt, child_entry_is, entry_is_cell, l
 use Rattle.act_image.proofs.Leaves.{LeafIn, each_among, each_mono, first_leaf_is, leaves_are, node_reached}
 use Rattle.act_image.proofs.PackFacts.{FewRefs, IsFilled, LastIn, NoTwice, StandsAt, all_filled, ends, listed, refs_length, words_length}
 use Rattle.act_image.proofs.PlaceFacts.{ChainAt, Found, OwnKeys, count_once, count_some, found, is_cell, once_count, one_place, own_keys, part_get, part_length, part_past, place_at, places_length, some_count, spots_at, spots_length, flat_within, chains_at}
+use Rattle.act_image.proofs.SizeFacts.{chain_count, empty_filled, few_refs, lists_count, whole_sized}
 use Rattle.act_image.proofs.WalkFacts.{node_leaves_once, nodes_are_under, size_is, under_once}
 
 lt_is : (a b : ℕ) → a < b → nat_lt a b ≡ true
@@ -241,25 +242,10 @@ module _ (settings : Settings) (p : Pic) (q : Planned) (state : State) (cells : 
         ∙ ap (λ m. chain_word numbers (get_or q.chains (get_or q.chain_rows m no_row).chain no_chain) (get_or q.bodies (get_or q.chain_rows m no_row).chain []) (get_or q.chain_rows m no_row).row place) e
 
   -- ---- the lists of a node
-  few_refs : (c : Address) → IsNode settings state c → Each (FewRefs state.zones) (node_leaves settings state c)
-  few_refs c node =
-      each_mono (LeafIn settings state c 4) (FewRefs state.zones) (node_leaves settings state c)
-      (λ l h. (
-      let is = first_leaf_is settings state l l h.leaf.cell h.leaf (first_in l h.leaf.cell) in
-      subst (λ (d : Address). count_at state d ≤ 510) is (served.few (hull_of l).lo)))
-      (leaves_are settings state 4 c node.cell (omega (arith, node_deep settings state c node)) (node_reached settings state c node))
-
-  empty_filled : IsFilled no_fill []
-  empty_filled = record { count = refl; last = λ r e. absurd (omega (arith, e)); none = λ e. refl; short = omega arith }
-
-  pub lists_count : (c : Address) → IsNode settings state c → length (lists_of settings state c) ≡ list_rows settings state c
-  unfolding lists_of
-  lists_count c node = all_filled state.zones state.trained (node_leaves settings state c) no_fill [] empty_filled (few_refs c node)
-
   row_ends : (c : Address) (i place : ℕ) → IsNode settings state c → i < length (lists_of settings state c) → IsRest settings state c i place → length (get_or (lists_of settings state c) i []) ≤ place
   unfolding lists_of
   row_ends c i place node low rest =
-      by (ends state.zones state.trained i (node_leaves settings state c) no_fill [] empty_filled (few_refs c node) (node_leaves_once settings state c node (node_deep settings state c node)) low)
+      by (ends state.zones state.trained i (node_leaves settings state c) no_fill [] empty_filled (few_refs settings state served c node) (node_leaves_once settings state c node (node_deep settings state c node)) low)
     where
       by : ((i < 0) × (length (get_or (Rattle.act_image.specs.Plans.put_lists state.zones no_fill [] (node_leaves settings state c)) i []) ≡ 0))
           ⊎ LastIn state.zones state.trained (node_leaves settings state c) no_fill (Rattle.act_image.specs.Plans.put_lists state.zones no_fill [] (node_leaves settings state c)) i
@@ -273,7 +259,7 @@ module _ (settings : Settings) (p : Pic) (q : Planned) (state : State) (cells : 
   list_stands : (c leaf : Address) → IsNode settings state c → Among (node_leaves settings state c) leaf → 2 < count_at state leaf
       → StandsAt (lists_of settings state c) (count_at state leaf) (words_in (refs_on state.zones leaf)) (start_in settings state c leaf).row (start_in settings state c leaf).place
   unfolding lists_of
-  list_stands c leaf node among many = listed state.zones state.trained leaf (node_leaves settings state c) no_fill [] empty_filled (few_refs c node) among many
+  list_stands c leaf node among many = listed state.zones state.trained leaf (node_leaves settings state c) no_fill [] empty_filled (few_refs settings state served c node) among many
 
   -- a row of a node's lists
   module _ (c : Address) (a : AtNode c) where
@@ -413,17 +399,6 @@ module _ (settings : Settings) (p : Pic) (q : Planned) (state : State) (cells : 
   all_chain_rows =
       chains_from_first state.zones (length q.spots + length q.lists) own
       (each_mono ChainRows (λ (zone : Zone). layout.chain zone.key ≡ part_of q.rows (length q.spots + length q.lists + chain_first state.zones zone.key) (chain_rows zone.shape)) state.zones (λ zone c. c.rows) each_chain)
-
-  chain_count : (zones : List Zone) (chain : ℕ) → length (chain_rows_from chain zones) ≡ chains_of zones
-  chain_count [] chain = refl
-  chain_count (zone ∷ zones) chain =
-      omega (
-        arith,
-        length-append (Rattle.act_image.specs.Plans.rows_from chain 0 (chain_rows zone.shape)) (chain_rows_from (chain + 1) zones),
-        Rattle.act_image.proofs.PlaceFacts.rows_length chain 0 (chain_rows zone.shape),
-        chain_count zones (chain + 1),
-        sum_by-cons (λ (z : Zone). chain_rows z.shape) zone zones,
-      )
 
   times_flat : {X : Type 0} (f : X → List ℕ) (xs : List X) (r : ℕ) → times (flat_map f xs) r ≡ sum_by (λ x. times (f x) r) xs
   times_flat f [] r = refl
@@ -620,30 +595,8 @@ module _ (settings : Settings) (p : Pic) (q : Planned) (state : State) (cells : 
       let first : get_or cells 0 root_cell ≡ root_cell = ap (λ v. get_or v 0 root_cell) w.queue in
       root_at.row ∙ ap (λ k. get_or q.rows k 0) (same_place root_cell root_at 0 some_cells first) ∙ sym root
 
-  sum_nodes : (ds : List Address) → Each (IsNode settings state) ds → sum_by (λ c. 1 + list_rows settings state c) ds ≡ length ds + length (flat_map (lists_of settings state) ds)
-  sum_nodes [] h = refl
-  sum_nodes (d ∷ ds) h =
-      omega (
-        arith,
-        sum_by-cons (λ c. 1 + list_rows settings state c) d ds,
-        sum_nodes ds h.1,
-        lists_count d h.0,
-        length-append (lists_of settings state d) (flat_map (lists_of settings state) ds),
-      )
-
   all_sized : length q.rows ≡ size_of settings state
-  all_sized =
-      omega (
-        arith,
-        need,
-        many_spots,
-        many_lists,
-        many_chain_rows,
-        chain_count state.zones 0,
-        size_is settings state,
-        w.same (λ c. 1 + list_rows settings state c),
-        sum_nodes cells w.are,
-      )
+  all_sized = need ∙ whole_sized settings state served q cells w
 
   installed_rows : rows_in (installed p q) ≡ q.rows
   unfolding rows_in installed
@@ -664,7 +617,7 @@ module _ (settings : Settings) (p : Pic) (q : Planned) (state : State) (cells : 
           top = root_first ∙ sym installed_root;
           entries = λ c i node small. entry_words x m.fresh c i node small;
           lists = λ c i node small whole many. list_words_are x m.fresh c (first_leaf settings state (entry_cell c i)) node (leaf_among settings state c node i small whole) many;
-          list_rows = λ c node. list_long c (at_node c (node_among c node)) ∙ lists_count c node;
+          list_rows = λ c node. list_long c (at_node c (node_among c node)) ∙ lists_count settings state served c node;
           rest = λ c i place node low small rest. rest_words x m.fresh c i place node low small rest;
           chains = All-from_recursion (λ (zone : Zone). HasChain x (layout.chain zone.key) zone) state.zones
           (each_mono ChainRows (λ (zone : Zone). HasChain x (layout.chain zone.key) zone) state.zones (λ zone c. has_chain x m.fresh zone c) each_chain);

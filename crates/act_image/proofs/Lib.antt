@@ -4,8 +4,10 @@ pub mod FillFacts
 pub mod PackFacts
 pub mod WalkFacts
 pub mod PlaceFacts
+pub mod SizeFacts
 pub mod BindFacts
 pub mod WordFacts
 pub mod BuildFacts
 pub mod StepFacts
 pub mod AfterFacts
+pub mod ServedFacts

@@ -275,7 +275,7 @@ module _ (settings : Settings) (state : State) where
   pack_append [] ys rows at = refl
   pack_append (x ∷ xs) ys rows at = pack_append xs ys (put_leaf (record { rows = rows; at = at }) (count_at state x)).rows (put_leaf (record { rows = rows; at = at }) (count_at state x)).at
 
-  count_is : (c : Address) → length (on (ground_of settings state) state.zones c) ≡ count_at state c
+  pub count_is : (c : Address) → length (on (ground_of settings state) state.zones c) ≡ count_at state c
   count_is c = sym (length-map (on (ground_of settings state) state.zones c) (λ (zone : Zone). record { key = zone.key; hit = is_within (class_at zone.shape c) }))
 
   -- the lists of the leaves near a cell

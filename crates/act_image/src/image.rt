@@ -1,9 +1,13 @@
 //! The plain copy of the shared rows.
 
+use crate::after::{chains_after, change_is_sound};
 use crate::chains::ChainPlace;
+use crate::fits::fits;
 use crate::nodes::NodePlace;
 use crate::plan::Plan;
+use crate::walk::Nodes;
 use act_grid::{Cell, NoMemory};
+use act_super::{Next, Super};
 use std::alloc::Global;
 use std::marker::Model;
 
@@ -30,8 +34,10 @@ impl Model for Image {
 impl Image {
     ghost use Rattle.std.specs.Prelude.{◌≡◌, IfOk};
     ghost use Rattle.act_grid.specs.declared.Settings.{Settings};
+    ghost use Rattle.act_base.specs.Sight.{Sight};
     ghost use Rattle.act_super.specs.declared.entry.State.{State};
-    ghost use Rattle.act_image.specs.Pics.{IsBound, Opens, installed};
+    ghost use Rattle.act_super.specs.States.{IsFor, after};
+    ghost use Rattle.act_image.specs.Pics.{IsBound, IsPlan, Opens, Shows, installed};
 
     /// The image of no zones: row 1, a node of 256 empty entries.
     pub fn new(alloc: Global) -> Result<Image, NoMemory>
@@ -50,6 +56,31 @@ impl Image {
             lists: 0,
             chains: Vec::new(alloc),
             rows,
+        })
+    }
+
+    /// A plan of all rows anew of the state after the change, which takes none of the rows of this image. It asks once for
+    /// each node and each leaf.
+    pub fn plan_whole(&self, alloc: Global, state: &Super, next: &Next) -> Result<Plan, NoMemory>
+        requires stands { (x : Sight) × Shows state.now.settings self.now x state.now.state }
+        requires next { IsFor state.now.settings state.now.state next.now }
+        ensures { IfOk result (λ plan. IsPlan state.now.settings self.now plan state.now.state (after state.now.settings state.now.state next.now.entry) × (plan.need ≡ next.now.size)) }
+    {
+        change_is_sound(next);
+        let chains = chains_after(alloc, state, next)?;
+        let nodes = Nodes::walk(alloc, state, next, &chains)?;
+        let need = fits(nodes.spots.len())? + fits(nodes.lists.len())? + fits(chains.rows.len())?;
+        let rows = Vec::from_elem(alloc, 0u32, need as usize)?;
+        let gone = self.rows.clone()?;
+        Ok(Plan {
+            nodes: nodes.places,
+            spots: nodes.spots,
+            lists: nodes.lists,
+            chains: chains.places,
+            bodies: chains.bodies,
+            chain_rows: chains.rows,
+            rows,
+            gone,
         })
     }
 

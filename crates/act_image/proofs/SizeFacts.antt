@@ -1,0 +1,71 @@
+-- A plan of all rows has as many as the state takes.
+use Rattle.std.proofs.Common.{◌≡◌, ℕ, zero, suc, ◌+◌, ◌≤◌, refl, sym, ap, ◌∙◌, subst, arith, List, [], ◌∷◌, ◌++◌, length}
+use Rattle.std.specs.List.{AllByRecursion as Each, flat_map, sum_by}
+use Rattle.std.proofs.lemmas.List.{length-append}
+use Rattle.std.proofs.lemmas.List.Sums.{sum_by-cons}
+use Rattle.act_grid.specs.declared.Settings.{Settings}
+use Rattle.act_grid.specs.Cell.{Address, hull_of}
+use Rattle.act_super.specs.declared.entry.State.{State}
+use Rattle.act_super.specs.declared.entry.Zone.{Zone}
+use Rattle.act_super.specs.Nodes.{IsNode, count_at, list_rows, node_leaves}
+use Rattle.act_super.specs.Sizes.{chain_rows, chains_of, size_of}
+use Rattle.act_super.specs.Stands.{IsServed}
+use Rattle.act_probe.proofs.EntryFacts.{node_deep}
+use Rattle.act_probe.proofs.WayFacts.{first_in}
+use Rattle.act_image.specs.Plans.{chain_rows_from, lists_of, no_fill, rows_from}
+use Rattle.act_image.specs.Pics.{IsWhole, Planned}
+use Rattle.act_image.proofs.Leaves.{LeafIn, each_mono, first_leaf_is, leaves_are, node_reached}
+use Rattle.act_image.proofs.PackFacts.{FewRefs, IsFilled, all_filled}
+use Rattle.act_image.proofs.PlaceFacts.{rows_length, spots_length}
+use Rattle.act_image.proofs.WalkFacts.{size_is}
+
+pub empty_filled : IsFilled no_fill []
+empty_filled = record { count = refl; last = λ r e. absurd (omega (arith, e)); none = λ e. refl; short = omega arith }
+
+pub chain_count : (zones : List Zone) (chain : ℕ) → length (chain_rows_from chain zones) ≡ chains_of zones
+chain_count [] chain = refl
+chain_count (zone ∷ zones) chain =
+    omega (
+      arith,
+      length-append (rows_from chain 0 (chain_rows zone.shape)) (chain_rows_from (chain + 1) zones),
+      rows_length chain 0 (chain_rows zone.shape),
+      chain_count zones (chain + 1),
+      sum_by-cons (λ (z : Zone). chain_rows z.shape) zone zones,
+    )
+
+module _ (settings : Settings) (state : State) (served : IsServed settings state) where
+  pub few_refs : (c : Address) → IsNode settings state c → Each (FewRefs state.zones) (node_leaves settings state c)
+  few_refs c node =
+      each_mono (LeafIn settings state c 4) (FewRefs state.zones) (node_leaves settings state c)
+      (λ l h. (
+      let is = first_leaf_is settings state l l h.leaf.cell h.leaf (first_in l h.leaf.cell) in
+      subst (λ (d : Address). count_at state d ≤ 510) is (served.few (hull_of l).lo)))
+      (leaves_are settings state 4 c node.cell (omega (arith, node_deep settings state c node)) (node_reached settings state c node))
+
+  pub lists_count : (c : Address) → IsNode settings state c → length (lists_of settings state c) ≡ list_rows settings state c
+  unfolding lists_of
+  lists_count c node = all_filled state.zones state.trained (node_leaves settings state c) no_fill [] empty_filled (few_refs c node)
+
+  sum_nodes : (ds : List Address) → Each (IsNode settings state) ds → sum_by (λ c. 1 + list_rows settings state c) ds ≡ length ds + length (flat_map (lists_of settings state) ds)
+  sum_nodes [] h = refl
+  sum_nodes (d ∷ ds) h =
+      omega (
+        arith,
+        sum_by-cons (λ c. 1 + list_rows settings state c) d ds,
+        sum_nodes ds h.1,
+        lists_count d h.0,
+        length-append (lists_of settings state d) (flat_map (lists_of settings state) ds),
+      )
+
+  pub whole_sized : (q : Planned) (cells : List Address) → IsWhole settings q state cells → length q.spots + length q.lists + length q.chain_rows ≡ size_of settings state
+  whole_sized q cells w =
+      omega (
+        arith,
+        ap length w.spots ∙ spots_length settings state 0 1 cells,
+        ap length w.lists,
+        ap length w.chain_rows,
+        chain_count state.zones 0,
+        size_is settings state,
+        w.same (λ c. 1 + list_rows settings state c),
+        sum_nodes cells w.are,
+      )
