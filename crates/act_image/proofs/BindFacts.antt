@@ -343,17 +343,17 @@ module _ (settings : Settings) (p : Pic) (q : Planned) (state : State) (cells : 
       let here_is : f d ≡ times (get_or q.rows j 0 ∷ part_of q.rows (length q.spots + b) (length (lists_of settings state d))) r =
       here ∙ (λ i. times (get_or q.rows (none i) 0 ∷ part_of q.rows (zero_b i) (length (lists_of settings state d))) r) in
       let rest = rows_upto r ds (j + 1) (b + length (lists_of settings state d)) f
-          (λ i small. (
-          let next : j + suc i ≡ j + 1 + i = omega arith in
-          let both = length-append (lists_of settings state d) (flat_map (lists_of settings state) (take i ds)) in
-          let more : length q.spots + (b + length (lists_of settings state d ++ flat_map (lists_of settings state) (take i ds)))
-              ≡ length q.spots + (b + length (lists_of settings state d) + length (flat_map (lists_of settings state) (take i ds))) = omega (arith, both) in
-          h (suc i) (omega (arith, small)) ∙ (λ t. times (get_or q.rows (next t) 0 ∷ part_of q.rows (more t) (length (lists_of settings state (get_or ds i root_cell)))) r)))
-          (omega (arith, low)) in
+      (λ i small. (
+      let next : j + suc i ≡ j + 1 + i = omega arith in
+      let both = length-append (lists_of settings state d) (flat_map (lists_of settings state) (take i ds)) in
+      let more : length q.spots + (b + length (lists_of settings state d ++ flat_map (lists_of settings state) (take i ds)))
+      ≡ length q.spots + (b + length (lists_of settings state d) + length (flat_map (lists_of settings state) (take i ds))) = omega (arith, both) in
+      h (suc i) (omega (arith, small)) ∙ (λ t. times (get_or q.rows (next t) 0 ∷ part_of q.rows (more t) (length (lists_of settings state (get_or ds i root_cell)))) r)))
+      (omega (arith, low)) in
       let front = ap (λ v. times v r) (Rattle.act_image.proofs.PlaceFacts.part_first q.rows j (length ds) (omega (arith, low))) in
       let long = length-append (lists_of settings state d) (flat_map (lists_of settings state) ds) in
       let behind : times (part_of q.rows (length q.spots + b) (length (flat_map (lists_of settings state) (d ∷ ds)))) r
-          ≡ times (part_of q.rows (length q.spots + b) (length (lists_of settings state d))) r + times (part_of q.rows (length q.spots + b + length (lists_of settings state d)) (length (flat_map (lists_of settings state) ds))) r =
+      ≡ times (part_of q.rows (length q.spots + b) (length (lists_of settings state d))) r + times (part_of q.rows (length q.spots + b + length (lists_of settings state d)) (length (flat_map (lists_of settings state) ds))) r =
       ap (λ m. times (part_of q.rows (length q.spots + b) m) r) long
       ∙ ap (λ v. times v r) (Rattle.act_image.proofs.PlaceFacts.part_plus q.rows (length q.spots + b) (length (lists_of settings state d)) (length (flat_map (lists_of settings state) ds)))
       ∙ times-append (part_of q.rows (length q.spots + b) (length (lists_of settings state d))) (part_of q.rows (length q.spots + b + length (lists_of settings state d)) (length (flat_map (lists_of settings state) ds))) r in
@@ -527,21 +527,21 @@ module _ (settings : Settings) (p : Pic) (q : Planned) (state : State) (cells : 
       has_chain = record {
         size = chain_long;
         first = (
-          let none : 0 + 1 ≡ 1 = omega arith in
-          row_word 0 0 (some_rows zone) (omega arith) ∙ ap (λ m. zone.key * 2 ^ 32 + m) (next_is 0 ∙ ap (λ k. get_or (layout.chain zone.key) k 0) none));
+            let none : 0 + 1 ≡ 1 = omega arith in
+            row_word 0 0 (some_rows zone) (omega arith) ∙ ap (λ m. zone.key * 2 ^ 32 + m) (next_is 0 ∙ ap (λ k. get_or (layout.chain zone.key) k 0) none));
         next = λ i some low. (
-          let no : (i == 0) ≡ false = Rattle.std.proofs.lemmas.Bool.ne_eqb i 0 (λ e. omega (arith, e, some)) in
-          let zero_key : (v : ℕ) → 0 * 2 ^ 32 + v ≡ v = λ v. omega arith in
-          row_word i 0 (omega (arith, low, chain_long)) (omega arith)
-          ∙ ap (λ b. cond b zone.key 0 * 2 ^ 32 + cond (nat_lt (i + 1) (chain_rows zone.shape)) (chain_number numbers (chain_first state.zones zone.key + (i + 1))) 0) no
-          ∙ zero_key _ ∙ next_is i);
+            let no : (i == 0) ≡ false = Rattle.std.proofs.lemmas.Bool.ne_eqb i 0 (λ e. omega (arith, e, some)) in
+            let zero_key : (v : ℕ) → 0 * 2 ^ 32 + v ≡ v = λ v. omega arith in
+            row_word i 0 (omega (arith, low, chain_long)) (omega arith)
+            ∙ ap (λ b. cond b zone.key 0 * 2 ^ 32 + cond (nat_lt (i + 1) (chain_rows zone.shape)) (chain_number numbers (chain_first state.zones zone.key + (i + 1))) 0) no
+            ∙ zero_key _ ∙ next_is i);
         body = λ i low. (
-          let row_low : i / 255 < chain_rows zone.shape = omega (arith, low, chain_long) in
-          let next : 1 + i % 255 ≡ suc (i % 255) = omega arith in
-          let back : i / 255 * 255 + i % 255 ≡ i = omega arith in
-          row_word (i / 255) (1 + i % 255) row_low (omega arith)
-          ∙ ap (chain_word numbers (record { key = zone.key; first = chain_first state.zones zone.key; count = chain_rows zone.shape }) (body_of zone.shape) (i / 255)) next
-          ∙ ap (λ k. get_or (body_of zone.shape) k 0) back);
+            let row_low : i / 255 < chain_rows zone.shape = omega (arith, low, chain_long) in
+            let next : 1 + i % 255 ≡ suc (i % 255) = omega arith in
+            let back : i / 255 * 255 + i % 255 ≡ i = omega arith in
+            row_word (i / 255) (1 + i % 255) row_low (omega arith)
+            ∙ ap (chain_word numbers (record { key = zone.key; first = chain_first state.zones zone.key; count = chain_rows zone.shape }) (body_of zone.shape) (i / 255)) next
+            ∙ ap (λ k. get_or (body_of zone.shape) k 0) back);
       }
 
     -- ---- all words
@@ -570,9 +570,9 @@ module _ (settings : Settings) (p : Pic) (q : Planned) (state : State) (cells : 
           words = record {
             within = omega (arith, long, words, s.fits);
             each = λ j low. (
-              let there : j < length (words_in (refs_on state.zones leaf)) = omega (arith, low, long) in
-              row_of_list c a st.row (st.place + j) s.within (omega (arith, there, words, s.fits)) ∙ ap (placed_word numbers) (s.each j there)
-              ∙ placed_at numbers (refs_on state.zones leaf) j there ∙ ap (λ v. get_or (words_of v) j 0) (refs_are leaf));
+                let there : j < length (words_in (refs_on state.zones leaf)) = omega (arith, low, long) in
+                row_of_list c a st.row (st.place + j) s.within (omega (arith, there, words, s.fits)) ∙ ap (placed_word numbers) (s.each j there)
+                ∙ placed_at numbers (refs_on state.zones leaf) j there ∙ ap (λ v. get_or (words_of v) j 0) (refs_are leaf));
           };
         }
 
@@ -620,7 +620,7 @@ module _ (settings : Settings) (p : Pic) (q : Planned) (state : State) (cells : 
           list_rows = λ c node. list_long c (at_node c (node_among c node)) ∙ lists_count settings state served c node;
           rest = λ c i place node low small rest. rest_words x m.fresh c i place node low small rest;
           chains = All-from_recursion (λ (zone : Zone). HasChain x (layout.chain zone.key) zone) state.zones
-          (each_mono ChainRows (λ (zone : Zone). HasChain x (layout.chain zone.key) zone) state.zones (λ zone c. has_chain x m.fresh zone c) each_chain);
+              (each_mono ChainRows (λ (zone : Zone). HasChain x (layout.chain zone.key) zone) state.zones (λ zone c. has_chain x m.fresh zone c) each_chain);
           firsts = m.firsts ∙ firsts_of_plan;
           rows = λ r. ap (λ v. times v r) rows ∙ all_rows r;
           once = λ r. (let same = ap (λ v. times v r) rows in omega (arith, same, fresh.once r));

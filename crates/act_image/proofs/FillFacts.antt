@@ -189,7 +189,7 @@ module _ (settings : Settings) (state : State) (c : Address) (node : IsNode sett
       let is = same_is l (first_leaf settings state (entry_cell c i)) e in
       let low : (first_leaf settings state (entry_cell c i)).level ≤ (entry_cell c i).level = ltb-false (entry_cell c i).level _ whole in
       let part = part_from_point (first_leaf settings state (entry_cell c i)) (entry_cell c i) (hull_of (entry_cell c i)).lo (first_is_leaf settings state (entry_cell c i) entry_is_cell).cell entry_is_cell low
-          (first_holds settings state (entry_cell c i) entry_is_cell) (first_in (entry_cell c i) entry_is_cell) in
+      (first_holds settings state (entry_cell c i) entry_is_cell) (first_in (entry_cell c i) entry_is_cell) in
       part_fills c i small l node.cell h.leaf.cell h.above h.near h.inside x (subst (λ (a : Address). IsPart a (entry_cell c i)) (sym is) part))
 
   leaf_fills_not : (l : Address) → LeafIn settings state c 4 l → (x : Entry) → is_parted settings state (entry_cell c i) ≡ true → fills (spot_at c.level l x) i ≡ false
@@ -251,7 +251,7 @@ module _ (settings : Settings) (state : State) (c : Address) (node : IsNode sett
       → ChildAt slot (node_children settings state c) (entry_cell c i) (entry_in (spots_of settings state base slot c) i)
   child_entry_is base slot parted =
       let skip = no_leaf state.zones c.level base i (child_spots c.level slot (node_children settings state c)) (node_leaves settings state c) no_fill
-          (each_mono (LeafIn settings state c 4) (λ leaf. (x : Entry) → fills (spot_at c.level leaf x) i ≡ false) (node_leaves settings state c) (λ l h x. leaf_fills_not l h x parted) near_leaves) in
+      (each_mono (LeafIn settings state c 4) (λ leaf. (x : Entry) → fills (spot_at c.level leaf x) i ≡ false) (node_leaves settings state c) (λ l h x. leaf_fills_not l h x parted) near_leaves) in
       let at = one_child_fills c.level i (entry_cell c i) (node_children settings state c) slot (child_among parted)
-          (each_mono (SplitIn settings state c 4) (λ child. (x : Entry) → fills (spot_at c.level child x) i ≡ same_cell child (entry_cell c i)) (node_children settings state c) (λ d h x. child_fills d h x) near_splits) in
+      (each_mono (SplitIn settings state c 4) (λ child. (x : Entry) → fills (spot_at c.level child x) i ≡ same_cell child (entry_cell c i)) (node_children settings state c) (λ d h x. child_fills d h x) near_splits) in
       record { place = at.place; within = at.within; cell = at.cell; is = skip ∙ at.is }

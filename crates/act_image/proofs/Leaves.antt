@@ -262,10 +262,10 @@ module _ (settings : Settings) (state : State) where
       by : (c ≡ root_cell) ⊎ (is_parted settings state c ≡ true) → Reached c
       by (inl same) = λ d part low. absurd (omega (arith, low, ap (λ (a : Address). a.level) same))
       by (inr parted) = λ d part low. (
-        let less : c.level < (first_leaf settings state c).level = Rattle.std.proofs.lemmas.Bool.ltb-true c.level _ parted in
-        let leaf = first_is_leaf c node.cell in
-        let inside : IsIn (hull_of d) (hull_of c).lo = (part_within d c (above_cell d part) node.cell part).low in
-        leaf.reached d (part_from_point d (first_leaf settings state c) (hull_of c).lo (above_cell d part) leaf.cell (omega (arith, less, low)) inside (first_holds c node.cell)) (omega (arith, less, low)))
+          let less : c.level < (first_leaf settings state c).level = Rattle.std.proofs.lemmas.Bool.ltb-true c.level _ parted in
+          let leaf = first_is_leaf c node.cell in
+          let inside : IsIn (hull_of d) (hull_of c).lo = (part_within d c (above_cell d part) node.cell part).low in
+          leaf.reached d (part_from_point d (first_leaf settings state c) (hull_of c).lo (above_cell d part) leaf.cell (omega (arith, less, low)) inside (first_holds c node.cell)) (omega (arith, less, low)))
         where
           above_cell : (d : Address) → IsPart d c → IsCell d
           above_cell d part =

@@ -149,11 +149,11 @@ module _ (s : Fill) (n : ℕ) (rows : List (List ListWord)) (words : List ListWo
         filled = subst (λ v. IsFilled v (behind_last rows words)) (sym (filled_behind full)) (record {
           count = same ∙ h.count;
           last = λ r e. (
-            let is : r ≡ s.rows - 1 = omega (arith, e, same, last) in
-            let both = length-append (get_or rows (s.rows - 1) []) words in
-            let old = h.last (s.rows - 1) last in
-            let there : length (get_or (behind_last rows words) r []) ≡ length (get_or rows (s.rows - 1) [] ++ words) = ap (λ k. length (get_or (behind_last rows words) k [])) is ∙ ap length new in
-            omega (arith, there, both, old, long));
+              let is : r ≡ s.rows - 1 = omega (arith, e, same, last) in
+              let both = length-append (get_or rows (s.rows - 1) []) words in
+              let old = h.last (s.rows - 1) last in
+              let there : length (get_or (behind_last rows words) r []) ≡ length (get_or rows (s.rows - 1) [] ++ words) = ap (λ k. length (get_or (behind_last rows words) k [])) is ∙ ap length new in
+              omega (arith, there, both, old, long));
           none = λ e. absurd (omega (arith, e, same, last));
           short = fits;
         });
@@ -231,7 +231,7 @@ module _ (s : Fill) (n : ℕ) (rows after : List (List ListWord)) (words : List 
   put_stands = record {
     within = p.within;
     each = λ j low. ap (λ v. get_or v (place + j) (list.Count 0)) p.at
-    ∙ ap (λ k. get_or (get_or rows row [] ++ words) (k + j) (list.Count 0)) (sym p.place_is) ∙ get_or-append-add (get_or rows row []) words j (list.Count 0);
+        ∙ ap (λ k. get_or (get_or rows row [] ++ words) (k + j) (list.Count 0)) (sym p.place_is) ∙ get_or-append-add (get_or rows row []) words j (list.Count 0);
     end = omega (arith, both_long, p.place_is, long);
     fits = p.fits;
   }
@@ -376,7 +376,7 @@ module _ (zones : List Zone) (trained : List Address) where
               let same = same_self leaf leaf refl in
               let long = both_long s (length (refs_of zones leaf)) rows _ (words_in (refs_on zones leaf)) _ _ (words_long leaf) put.1 in
               let there : length (get_or (put_list s (length (refs_of zones leaf)) rows (refs_on zones leaf)) i [])
-                  ≡ length (get_or (put_list s (length (refs_of zones leaf)) rows (refs_on zones leaf)) (start_at s (length (refs_of zones leaf))).row []) =
+              ≡ length (get_or (put_list s (length (refs_of zones leaf)) rows (refs_on zones leaf)) (start_at s (length (refs_of zones leaf))).row []) =
               ap (λ k. length (get_or (put_list s (length (refs_of zones leaf)) rows (refs_on zones leaf)) k [])) e in
               inr (record {
                 leaf = leaf;
@@ -384,5 +384,5 @@ module _ (zones : List Zone) (trained : List Address) where
                 many = put.0;
                 row = ap (λ b. (cond b (start_at s (length (refs_of zones leaf))) (start (filled s (length (refs_of zones leaf))) leaves leaf)).row) same ∙ sym e;
                 end = ap (λ b. (cond b (start_at s (length (refs_of zones leaf))) (start (filled s (length (refs_of zones leaf))) leaves leaf)).place + list_words (length (refs_of zones leaf))) same
-                ∙ omega (arith, long, put.1.place_is, words_long leaf, there, old.1);
+                    ∙ omega (arith, long, put.1.place_is, words_long leaf, there, old.1);
               })

@@ -156,7 +156,7 @@ module _ (settings : Settings) (state : State) where
             within = subst (λ b. cond b 0 (suc (node_at (places_from settings state (base + length (lists_of settings state x)) cells) c)) < suc (length cells)) is within;
             cell = subst (λ b. get_or (x ∷ cells) (cond b 0 (suc (node_at (places_from settings state (base + length (lists_of settings state x)) cells) c))) root_cell ≡ c) is cell;
             node = subst (λ b. cond b (record { cell = x; first = base; count = length (lists_of settings state x) }) (node_of (places_from settings state (base + length (lists_of settings state x)) cells) c)
-            ≡ get_or (places_from settings state base (x ∷ cells)) (cond b 0 (suc (node_at (places_from settings state (base + length (lists_of settings state x)) cells) c))) no_node) is node;
+                ≡ get_or (places_from settings state base (x ∷ cells)) (cond b 0 (suc (node_at (places_from settings state (base + length (lists_of settings state x)) cells) c))) no_node) is node;
           }
 
       by : (b : Bool) → same_cell x c ≡ b → Among (x ∷ cells) c → (Among cells c → Found (base + length (lists_of settings state x)) cells c) → Found base (x ∷ cells) c
@@ -200,8 +200,8 @@ none_there : (key : ℕ) (zones : List Zone) → times (map (λ (zone : Zone). z
 none_there key [] h = tt
 none_there key (zone ∷ zones) h = (
   λ same. let here = times_here zone.key (map (λ (other : Zone). other.key) zones) in
-  let there : times (zone.key ∷ map (λ (other : Zone). other.key) zones) zone.key ≡ 0 = subst (λ k. times (zone.key ∷ map (λ (other : Zone). other.key) zones) k ≡ 0) same h in
-  omega (arith, here, there),
+      let there : times (zone.key ∷ map (λ (other : Zone). other.key) zones) zone.key ≡ 0 = subst (λ k. times (zone.key ∷ map (λ (other : Zone). other.key) zones) k ≡ 0) same h in
+      omega (arith, here, there),
   none_there key zones (omega (arith, h, Rattle.act_base.proofs.Times.times_there zone.key key (map (λ (other : Zone). other.key) zones))),
 )
 
@@ -253,13 +253,13 @@ chains_at first chain (zone ∷ zones) own = (here, there zones own.0 (chains_at
       place = here_place;
       body = refl;
       rows = λ i low. (
-        let n = rows_length chain 0 (chain_rows zone.shape) in
-        let at : chain_first (zone ∷ zones) zone.key + i ≡ i = omega (arith, zero_first) in
-        let c : chain ≡ chain + 0 = omega arith in
-        let r : 0 + i ≡ i = omega arith in
-        ap (λ k. get_or (chain_rows_from chain (zone ∷ zones)) k no_row) at
-        ∙ get_or_append_left (rows_from chain 0 (chain_rows zone.shape)) (chain_rows_from (chain + 1) zones) no_row i (omega (arith, n, low))
-        ∙ rows_at chain 0 (chain_rows zone.shape) i low ∙ (λ t. record { chain = c t; row = r t }));
+          let n = rows_length chain 0 (chain_rows zone.shape) in
+          let at : chain_first (zone ∷ zones) zone.key + i ≡ i = omega (arith, zero_first) in
+          let c : chain ≡ chain + 0 = omega arith in
+          let r : 0 + i ≡ i = omega arith in
+          ap (λ k. get_or (chain_rows_from chain (zone ∷ zones)) k no_row) at
+          ∙ get_or_append_left (rows_from chain 0 (chain_rows zone.shape)) (chain_rows_from (chain + 1) zones) no_row i (omega (arith, n, low))
+          ∙ rows_at chain 0 (chain_rows zone.shape) i low ∙ (λ t. record { chain = c t; row = r t }));
       within = omega (arith, zero_first, long);
     }
 
@@ -269,19 +269,19 @@ chains_at first chain (zone ∷ zones) own = (here, there zones own.0 (chains_at
         let further : chain_first (zone ∷ zones) other.key ≡ chain_rows zone.shape + chain_first zones other.key = ap (λ b. cond b 0 (chain_rows zone.shape + chain_first zones other.key)) no in
         let e : first + chain_rows zone.shape + chain_first zones other.key ≡ first + chain_first (zone ∷ zones) other.key = omega (arith, further) in
         let same : ◌≡◌ {A = ChainPlace} (record { key = other.key; first = first + chain_rows zone.shape + chain_first zones other.key; count = chain_rows other.shape })
-            (record { key = other.key; first = first + chain_first (zone ∷ zones) other.key; count = chain_rows other.shape }) = ap (λ n. record { key = other.key; first = n; count = chain_rows other.shape }) e in
+        (record { key = other.key; first = first + chain_first (zone ∷ zones) other.key; count = chain_rows other.shape }) = ap (λ n. record { key = other.key; first = n; count = chain_rows other.shape }) e in
         record {
           index = suc at.index;
           looked_up = ap (λ b. cond b (record { key = zone.key; first = first; count = chain_rows zone.shape }) (chain_of (chains_from (first + chain_rows zone.shape) zones) other.key)) no ∙ at.looked_up ∙ same;
           place = at.place ∙ same;
           body = at.body;
           rows = λ i low. (
-            let n = rows_length chain 0 (chain_rows zone.shape) in
-            let k : chain_first (zone ∷ zones) other.key + i ≡ length (rows_from chain 0 (chain_rows zone.shape)) + (chain_first zones other.key + i) = omega (arith, further, n) in
-            let c : chain + 1 + at.index ≡ chain + suc at.index = omega arith in
-            ap (λ k. get_or (chain_rows_from chain (zone ∷ zones)) k no_row) k
-            ∙ get_or-append-add (rows_from chain 0 (chain_rows zone.shape)) (chain_rows_from (chain + 1) zones) (chain_first zones other.key + i) no_row
-            ∙ at.rows i low ∙ ap (λ m. record { chain = m; row = i }) c);
+              let n = rows_length chain 0 (chain_rows zone.shape) in
+              let k : chain_first (zone ∷ zones) other.key + i ≡ length (rows_from chain 0 (chain_rows zone.shape)) + (chain_first zones other.key + i) = omega (arith, further, n) in
+              let c : chain + 1 + at.index ≡ chain + suc at.index = omega arith in
+              ap (λ k. get_or (chain_rows_from chain (zone ∷ zones)) k no_row) k
+              ∙ get_or-append-add (rows_from chain 0 (chain_rows zone.shape)) (chain_rows_from (chain + 1) zones) (chain_first zones other.key + i) no_row
+              ∙ at.rows i low ∙ ap (λ m. record { chain = m; row = i }) c);
           within = omega (arith, further, long, at.within);
         }
 

@@ -1,19 +1,21 @@
 -- A plan of all rows has as many as the state takes.
-use Rattle.std.proofs.Common.{◌≡◌, ℕ, zero, suc, ◌+◌, ◌≤◌, refl, sym, ap, ◌∙◌, subst, arith, List, [], ◌∷◌, ◌++◌, length}
+use Rattle.std.proofs.Common.{◌≡◌, ℕ, zero, suc, ◌+◌, ◌≤◌, refl, sym, ap, ◌∙◌, subst, arith, List, [], ◌∷◌, ◌++◌, length, take, drop}
 use Rattle.std.specs.List.{AllByRecursion as Each, flat_map, sum_by}
-use Rattle.std.proofs.lemmas.List.{length-append}
+use Rattle.std.proofs.lemmas.List.{drop_all, length-append, take_all}
 use Rattle.std.proofs.lemmas.List.Sums.{sum_by-cons}
 use Rattle.act_grid.specs.declared.Settings.{Settings}
-use Rattle.act_grid.specs.Cell.{Address, hull_of}
+use Rattle.act_grid.specs.Cell.{Address, hull_of, root_cell}
 use Rattle.act_super.specs.declared.entry.State.{State}
 use Rattle.act_super.specs.declared.entry.Zone.{Zone}
-use Rattle.act_super.specs.Nodes.{IsNode, count_at, list_rows, node_leaves}
+use Rattle.act_super.specs.Nodes.{IsNode, count_at, list_rows, node_children, node_leaves}
 use Rattle.act_super.specs.Sizes.{chain_rows, chains_of, size_of}
 use Rattle.act_super.specs.Stands.{IsServed}
 use Rattle.act_probe.proofs.EntryFacts.{node_deep}
 use Rattle.act_probe.proofs.WayFacts.{first_in}
-use Rattle.act_image.specs.Plans.{chain_rows_from, lists_of, no_fill, rows_from}
-use Rattle.act_image.specs.Pics.{IsWhole, Planned}
+use Rattle.act_image.specs.declared.chains.Chains.{Chains}
+use Rattle.act_image.specs.declared.walk.Nodes.{Nodes}
+use Rattle.act_image.specs.Plans.{IsChains, IsWalked, chain_rows_from, lists_of, no_fill, nodes_from, places_from, rows_from, spots_from}
+use Rattle.act_image.specs.Pics.{HaveOwnKeys, IsPlan, IsWhole, Pic, Planned, rows_in}
 use Rattle.act_image.proofs.Leaves.{LeafIn, each_mono, first_leaf_is, leaves_are, node_reached}
 use Rattle.act_image.proofs.PackFacts.{FewRefs, IsFilled, all_filled}
 use Rattle.act_image.proofs.PlaceFacts.{rows_length, spots_length}
@@ -69,3 +71,32 @@ module _ (settings : Settings) (state : State) (served : IsServed settings state
         w.same (λ c. 1 + list_rows settings state c),
         sum_nodes cells w.are,
       )
+
+-- what was walked, and the chains, make a plan of all rows
+pub walked_whole : (settings : Settings) (state : State) (nodes : Nodes) (chains : Chains) (q : Planned) → IsWalked settings state nodes → IsChains state.zones chains → q.nodes ≡ nodes.places.items → q.spots ≡ nodes.spots.items
+    → q.lists ≡ nodes.lists.items → q.chains ≡ chains.places.items → q.bodies ≡ chains.bodies.items → q.chain_rows ≡ chains.rows.items → IsWhole settings q state nodes.cells.items
+walked_whole settings state nodes chains q w c a b d e f g =
+    let cells = nodes.cells.items in
+    let all : take (length cells) cells ≡ cells = take_all (length cells) cells (omega arith) in
+    let none : drop (length cells) cells ≡ [] = drop_all (length cells) cells (omega arith) in
+    record {
+      same = λ h. (
+          let front = ap (sum_by h) all in
+          let back = ap (sum_by (λ x. sum_by h (nodes_from settings state x))) none in
+          omega (arith, front, back, w.same h));
+      are = w.are;
+      queue = w.queue ∙ ap (λ v. root_cell ∷ flat_map (node_children settings state) v) all;
+      nodes = a ∙ w.places ∙ ap (places_from settings state 0) all;
+      spots = b ∙ w.spots ∙ ap (spots_from settings state 0 1) all;
+      lists = d ∙ w.lists ∙ ap (flat_map (lists_of settings state)) all;
+      chains = e ∙ c.places;
+      bodies = f ∙ c.bodies;
+      chain_rows = g ∙ c.rows;
+    }
+
+-- and it is a plan for the state
+pub whole_plan : (settings : Settings) (p : Pic) (q : Planned) (state new : State) (cells : List Address) → IsWhole settings q new cells → IsServed settings new → HaveOwnKeys new.zones → q.gone ≡ rows_in p
+    → q.need ≡ length q.spots + length q.lists + length q.chain_rows → IsPlan settings p q state new
+whole_plan settings p q state new cells w served keys gone need =
+    let size = whole_sized settings new served q cells w in
+    record { few = omega (arith, need, size); need = need; served = served; keys = keys; cells = cells; whole = w; gone = gone }

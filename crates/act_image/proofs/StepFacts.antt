@@ -80,10 +80,10 @@ module _ (settings : Settings) (state : State) where
   root_walk nodes cells places spots lists = record {
     within = omega arith;
     same = λ f. (
-      let one = sum_by-cons (λ c. sum_by f (nodes_from settings state c)) root_cell [] in
-      let all = ap (sum_by f) (nodes_are_under settings state) in
-      let here = ap (sum_by (λ c. sum_by f (nodes_from settings state c))) cells in
-      omega (arith, one, all, here));
+        let one = sum_by-cons (λ c. sum_by f (nodes_from settings state c)) root_cell [] in
+        let all = ap (sum_by f) (nodes_are_under settings state) in
+        let here = ap (sum_by (λ c. sum_by f (nodes_from settings state c))) cells in
+        omega (arith, one, all, here));
     are = subst (Each (IsNode settings state)) (sym cells) (root_node settings state, tt);
     queue = cells;
     places = places;
@@ -115,25 +115,25 @@ module _ (settings : Settings) (state : State) where
         record {
           within = omega (arith, ap length cells, length-append old.cells.items children, low);
           same = λ f. (
-            let sum_c : sum_by f (nodes_from settings state c) ≡ f c + sum_by f (flat_map (nodes_from settings state) children) = ap (sum_by f) first ∙ sum_by-cons f c (flat_map (nodes_from settings state) children) in
-            let below : sum_by f (flat_map (nodes_from settings state) children) ≡ sum_by (λ d. sum_by f (nodes_from settings state d)) children = sum_flat f (nodes_from settings state) children in
-            let a : sum_by f (take (k + 1) new.cells.items) ≡ sum_by f (take k old.cells.items) + sum_by f (c ∷ []) = ap (sum_by f) taken ∙ sum_by-append f (take k old.cells.items) (c ∷ []) in
-            let one : sum_by f (c ∷ []) ≡ f c + sum_by f [] = sum_by-cons f c [] in
-            let b : sum_by (λ d. sum_by f (nodes_from settings state d)) (drop (k + 1) new.cells.items)
-                ≡ sum_by (λ d. sum_by f (nodes_from settings state d)) (drop (k + 1) old.cells.items) + sum_by (λ d. sum_by f (nodes_from settings state d)) children =
-            ap (sum_by (λ d. sum_by f (nodes_from settings state d))) left ∙ sum_by-append (λ d. sum_by f (nodes_from settings state d)) (drop (k + 1) old.cells.items) children in
-            let e : sum_by (λ d. sum_by f (nodes_from settings state d)) (drop k old.cells.items) ≡ sum_by f (nodes_from settings state c) + sum_by (λ d. sum_by f (nodes_from settings state d)) (drop (k + 1) old.cells.items) =
-            ap (sum_by (λ d. sum_by f (nodes_from settings state d))) before ∙ sum_by-cons (λ d. sum_by f (nodes_from settings state d)) c (drop (k + 1) old.cells.items) in
-            omega (arith, sum_c, below, a, one, b, e, h.same f));
+              let sum_c : sum_by f (nodes_from settings state c) ≡ f c + sum_by f (flat_map (nodes_from settings state) children) = ap (sum_by f) first ∙ sum_by-cons f c (flat_map (nodes_from settings state) children) in
+              let below : sum_by f (flat_map (nodes_from settings state) children) ≡ sum_by (λ d. sum_by f (nodes_from settings state d)) children = sum_flat f (nodes_from settings state) children in
+              let a : sum_by f (take (k + 1) new.cells.items) ≡ sum_by f (take k old.cells.items) + sum_by f (c ∷ []) = ap (sum_by f) taken ∙ sum_by-append f (take k old.cells.items) (c ∷ []) in
+              let one : sum_by f (c ∷ []) ≡ f c + sum_by f [] = sum_by-cons f c [] in
+              let b : sum_by (λ d. sum_by f (nodes_from settings state d)) (drop (k + 1) new.cells.items)
+              ≡ sum_by (λ d. sum_by f (nodes_from settings state d)) (drop (k + 1) old.cells.items) + sum_by (λ d. sum_by f (nodes_from settings state d)) children =
+              ap (sum_by (λ d. sum_by f (nodes_from settings state d))) left ∙ sum_by-append (λ d. sum_by f (nodes_from settings state d)) (drop (k + 1) old.cells.items) children in
+              let e : sum_by (λ d. sum_by f (nodes_from settings state d)) (drop k old.cells.items) ≡ sum_by f (nodes_from settings state c) + sum_by (λ d. sum_by f (nodes_from settings state d)) (drop (k + 1) old.cells.items) =
+              ap (sum_by (λ d. sum_by f (nodes_from settings state d))) before ∙ sum_by-cons (λ d. sum_by f (nodes_from settings state d)) c (drop (k + 1) old.cells.items) in
+              omega (arith, sum_c, below, a, one, b, e, h.same f));
           are = subst (Each (IsNode settings state)) (sym cells) (each_append (IsNode settings state) old.cells.items children h.are (children_nodes c node));
           queue = (
-            let more : flat_map (node_children settings state) (take (k + 1) new.cells.items) ≡ flat_map (node_children settings state) done ++ children =
-            ap (flat_map (node_children settings state)) taken ∙ flat_map-append (node_children settings state) done (c ∷ []) ∙ ap (λ v. flat_map (node_children settings state) done ++ v) (append-nil children) in
-            cells ∙ ap (λ v. v ++ children) h.queue ∙ ap (λ v. root_cell ∷ v) (sym more));
+              let more : flat_map (node_children settings state) (take (k + 1) new.cells.items) ≡ flat_map (node_children settings state) done ++ children =
+              ap (flat_map (node_children settings state)) taken ∙ flat_map-append (node_children settings state) done (c ∷ []) ∙ ap (λ v. flat_map (node_children settings state) done ++ v) (append-nil children) in
+              cells ∙ ap (λ v. v ++ children) h.queue ∙ ap (λ v. root_cell ∷ v) (sym more));
           places = places ∙ ap (λ v. v ++ record { cell = c; first = length old.lists.items; count = length (lists_of settings state c) } ∷ []) h.places
-          ∙ sym (ap (places_from settings state 0) taken ∙ places_push 0 done c ∙ ap (λ n. places_from settings state 0 done ++ record { cell = c; first = n; count = length (lists_of settings state c) } ∷ []) base);
+              ∙ sym (ap (places_from settings state 0) taken ∙ places_push 0 done c ∙ ap (λ n. places_from settings state 0 done ++ record { cell = c; first = n; count = length (lists_of settings state c) } ∷ []) base);
           spots = spots ∙ ap (λ v. v ++ spots_of settings state (length old.lists.items) (length old.cells.items) c ∷ []) h.spots
-          ∙ sym (ap (spots_from settings state 0 1) taken ∙ spots_push 0 1 done c ∙ (λ i. spots_from settings state 0 1 done ++ spots_of settings state (base i) (slot i) c ∷ []));
+              ∙ sym (ap (spots_from settings state 0 1) taken ∙ spots_push 0 1 done c ∙ (λ i. spots_from settings state 0 1 done ++ spots_of settings state (base i) (slot i) c ∷ []));
           lists = lists ∙ ap (λ v. v ++ lists_of settings state c) h.lists
-          ∙ sym (ap (flat_map (lists_of settings state)) taken ∙ flat_map-append (lists_of settings state) done (c ∷ []) ∙ ap (λ v. flat_map (lists_of settings state) done ++ v) (append-nil (lists_of settings state c)));
+              ∙ sym (ap (flat_map (lists_of settings state)) taken ∙ flat_map-append (lists_of settings state) done (c ∷ []) ∙ ap (λ v. flat_map (lists_of settings state) done ++ v) (append-nil (lists_of settings state c)));
         }

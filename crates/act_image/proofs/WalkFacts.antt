@@ -359,9 +359,9 @@ module _ (settings : Settings) (state : State) where
       let s = split_four d (omega (arith, deep)) asks in
       let first = node_first (ground_of settings state) state.zones d step (omega (arith, deep, step)) in
       let parts = sum_four (splits_near (ground_of settings state) 3 state.zones (child_of d 0)) (splits_near (ground_of settings state) 3 state.zones (child_of d 1))
-          (splits_near (ground_of settings state) 3 state.zones (child_of d 2)) (splits_near (ground_of settings state) 3 state.zones (child_of d 3)) in
+      (splits_near (ground_of settings state) 3 state.zones (child_of d 2)) (splits_near (ground_of settings state) 3 state.zones (child_of d 3)) in
       let all : sum_by rows_at (flat_map (nodes_under (ground_of settings state) state.zones) (d ∷ []))
-          ≡ rows_at d + sum_by rows_at (flat_map (nodes_under (ground_of settings state) state.zones) (splits_near (ground_of settings state) 4 state.zones d)) =
+      ≡ rows_at d + sum_by rows_at (flat_map (nodes_under (ground_of settings state) state.zones) (splits_near (ground_of settings state) 4 state.zones d)) =
       ap (sum_by rows_at) (append-nil (nodes_under (ground_of settings state) state.zones d) ∙ first)
       ∙ sum_by-cons rows_at d (flat_map (nodes_under (ground_of settings state) state.zones) (splits_near (ground_of settings state) 4 state.zones d)) in
       let below = ap (λ v. sum_by rows_at (flat_map (nodes_under (ground_of settings state) state.zones) v)) s in
@@ -420,7 +420,7 @@ module _ (settings : Settings) (state : State) where
   root_rows : (n : ℕ) → 0 + n ≡ 28 → node_rows (tree_of (ground_of settings state) n state.zones root_cell) ≡ sum_by rows_at (nodes_under (ground_of settings state) state.zones root_cell)
   root_rows n deep =
       let first = ap (sum_by rows_at) (node_first (ground_of settings state) state.zones root_cell refl (omega arith))
-          ∙ sum_by-cons rows_at root_cell (flat_map (nodes_under (ground_of settings state) state.zones) (splits_near (ground_of settings state) 4 state.zones root_cell)) in
+      ∙ sum_by-cons rows_at root_cell (flat_map (nodes_under (ground_of settings state) state.zones) (splits_near (ground_of settings state) 4 state.zones root_cell)) in
       let below = inner_is n 4 root_cell deep refl (omega arith) (omega arith) in
       let own = lists_are n root_cell deep in
       omega (arith, first, below, own)

@@ -97,12 +97,7 @@ fn reshaped_chains(
     Ok(chains)
 }
 
-fn chains_with(
-    alloc: Global,
-    state: &Super,
-    key: u32,
-    shape: &Shape,
-) -> Result<Chains, NoMemory>
+fn chains_with(alloc: Global, state: &Super, key: u32, shape: &Shape) -> Result<Chains, NoMemory>
     ensures { IfOk result (IsChains (with_zone (record { key = key; shape = shape.now }) state.now.state.zones)) }
 {
     let mut chains = Chains::new(alloc);
@@ -117,12 +112,7 @@ fn chains_with(
 }
 
 // Puts the chains of the zones from a place on.
-fn push_rest(
-    chains: &mut Chains,
-    alloc: Global,
-    state: &Super,
-    from: u32,
-) -> Result<(), NoMemory>
+fn push_rest(chains: &mut Chains, alloc: Global, state: &Super, from: u32) -> Result<(), NoMemory>
     requires { from ≤ length state.now.state.zones }
     ensures { OnOk result ((zones : List Zone) → IsChains zones chains.old → IsChains (zones ++ drop from state.now.state.zones) chains.new) }
 {

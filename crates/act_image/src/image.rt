@@ -71,7 +71,7 @@ impl Image {
         let nodes = Nodes::walk(alloc, state, next, &chains)?;
         let need = fits(nodes.spots.len())? + fits(nodes.lists.len())? + fits(chains.rows.len())?;
         let rows = Vec::from_elem(alloc, 0u32, need as usize)?;
-        let gone = self.rows.clone()?;
+        let gone = Vec::from_slice(alloc, self.rows.as_slice())?;
         Ok(Plan {
             nodes: nodes.places,
             spots: nodes.spots,

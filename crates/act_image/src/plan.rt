@@ -31,16 +31,16 @@ impl Model for Plan {
     ghost Value = { Planned };
 
     ghost view = { λ p. record {
-        need = length p.rows.items;
-        root = slice_index p.rows.items 0;
-        nodes = p.nodes.items;
-        spots = p.spots.items;
-        lists = p.lists.items;
-        chains = p.chains.items;
-        bodies = p.bodies.items;
-        chain_rows = p.chain_rows.items;
-        rows = p.rows.items;
-        gone = p.gone.items;
+      need = length p.rows.items;
+      root = slice_index p.rows.items 0;
+      nodes = p.nodes.items;
+      spots = p.spots.items;
+      lists = p.lists.items;
+      chains = p.chains.items;
+      bodies = p.bodies.items;
+      chain_rows = p.chain_rows.items;
+      rows = p.rows.items;
+      gone = p.gone.items;
     } };
 
     ghost invariant = { λ p. (length p.rows.items ≡ length p.spots.items + length p.lists.items + length p.chain_rows.items) × (length p.rows.items < 2 ^ 32) };

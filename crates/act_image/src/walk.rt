@@ -118,15 +118,7 @@ fn leaf_parts(
     let mut fill = Fill::empty();
     for i in 0..leaves.len() {
         let spot = leaf_part(
-            alloc,
-            state,
-            next,
-            chains,
-            level,
-            base,
-            leaves[i],
-            &mut fill,
-            &mut rows,
+            alloc, state, next, chains, level, base, leaves[i], &mut fill, &mut rows,
         )?;
         spots.push(spot)?;
     }
@@ -223,7 +215,10 @@ impl Nodes {
             base,
             node.leaves.as_slice(),
         )?;
-        let NodeParts { mut spots, mut rows } = parts;
+        let NodeParts {
+            mut spots,
+            mut rows,
+        } = parts;
         push_children(&mut spots, cell.level(), slot, node.children.as_slice())?;
         let count = fits(rows.len())?;
         self.places.push(NodePlace {

@@ -17,7 +17,7 @@ loop-i-preserved c =
     record {
       within = omega (arith, low);
       put = put_own zones c.loop-i.i _ _ c.zone_key-in-loop-i.ensures c.zone_shape.ensures (with_zone new zones) (with_zone new (drop c.loop-i.i zones)) _ c.loop-i.chains c.push.new.self c.push.new.self
-      (next_below zones c.loop-i.i low new (omega (arith, c.if-zone_key-key.true, c.zone_key.ensures))) c.loop-i.invariant.put c.in_ok-push.ensures refl;
+          (next_below zones c.loop-i.i low new (omega (arith, c.if-zone_key-key.true, c.zone_key.ensures))) c.loop-i.invariant.put c.in_ok-push.ensures refl;
     }
 
 pub returns : goal.returns
