@@ -11,3 +11,4 @@ pub mod BuildFacts
 pub mod StepFacts
 pub mod AfterFacts
 pub mod ServedFacts
+pub mod FirstFacts

@@ -99,6 +99,19 @@ planned_word p i place =
 unfoldable pub installed : Pic → Planned → Pic
 installed p plan = record { root = plan.root; nodes = plan.nodes; lists = length plan.lists; chains = plan.chains; rows = plan.rows }
 
+-- where a row stands among these
+abbrev pub row_at : List ℕ → ℕ → ℕ
+row_at [] r = 0
+row_at (x ∷ rows) r = cond (x == r) 0 (suc (row_at rows r))
+
+-- the image of a plan of all rows that has its rows: each word as it is planned
+abbrev pub sight_of : Planned → Sight
+sight_of plan = record {
+  rows = plan.rows;
+  firsts = firsts_in (installed (record { root = 0; nodes = []; lists = 0; chains = []; rows = [] }) plan);
+  word = λ row place. planned_word plan (row_at plan.rows row) place;
+}
+
 -- the image x stands for the state, and the copy tells which rows serve for what
 pub record Shows (settings : Settings) (p : Pic) (x : Sight) (state : State) : Type 0 where
   pub served : IsServed settings state

@@ -24,6 +24,8 @@ mod lists;
 mod nodes;
 mod plan;
 mod spots;
+#[cfg(test)]
+mod tests;
 mod walk;
 
 pub use image::Image;

@@ -1,0 +1,90 @@
+-- A first plan over the image of no zones stands for its state.
+use Rattle.std.proofs.Common.{◌≡◌, ◌≢◌, ℕ, zero, suc, ◌+◌, ◌^◌, ◌<◌, ◌≤◌, ◌⊎◌, inl, inr, Bool, true, false, cond, ◌==◌, eqb, refl, sym, ap, ◌∙◌, subst, arith, List, [], ◌∷◌, length, get_or, drop}
+use Rattle.std.proofs.lemmas.Bool.Decides.{eqb_tells}
+use Rattle.std.proofs.lemmas.List.{drop_all, drop_more}
+use Rattle.act_grid.specs.declared.Settings.{Settings}
+use Rattle.act_base.specs.Counting.{from, times}
+use Rattle.act_base.specs.Sight.{Sight}
+use Rattle.act_base.proofs.Times.{from_once, from_ranged, times_else, times_get, times_here}
+use Rattle.act_super.specs.declared.entry.State.{State}
+use Rattle.act_super.specs.States.{nothing}
+use Rattle.act_super.specs.Stands.{IsBlank, Stands}
+use Rattle.act_image.specs.Pics.{IsBound, IsFresh, IsPlan, Makes, Opens, Pic, Planned, Shows, firsts_in, installed, layout_in, planned_word, row_at, rows_in, sight_of}
+
+-- ---- where a row stands
+row_here : (rows : List ℕ) (i r : ℕ) → i < length rows → get_or rows i 0 ≡ r → times rows r ≤ 1 → row_at rows r ≡ i
+row_here [] i r low is once = absurd (omega (arith, low))
+row_here (x ∷ rows) zero r low is once = ap (λ b. cond b 0 (suc (row_at rows r))) (Rattle.std.proofs.Common.eq-eqb x r is)
+row_here (x ∷ rows) (suc i) r low is once = by (eqb_tells x r) (λ few. row_here rows i r (omega (arith, low)) is few)
+  where
+    there : 0 < times rows r
+    there = subst (λ v. 0 < times rows v) is (times_get rows i 0 (omega (arith, low)))
+
+    by : ((eqb x r ≡ true) × (x ≡ r)) ⊎ ((eqb x r ≡ false) × (x ≢ r)) → (times rows r ≤ 1 → row_at rows r ≡ i) → cond (x == r) 0 (suc (row_at rows r)) ≡ suc i
+    by (inl same) more =
+        let one : times (x ∷ rows) r ≡ 1 + times rows r = subst (λ v. times (x ∷ rows) v ≡ 1 + times rows v) same.1 (times_here x rows) in
+        absurd (omega (arith, one, once, there))
+    by (inr other) more =
+        let no : (x == r) ≡ false = other.0 in
+        ap (λ b. cond b 0 (suc (row_at rows r))) no ∙ ap suc (more (omega (arith, once, times_else x r rows other.1)))
+
+pub row_found : (rows : List ℕ) (i r : ℕ) → i < length rows → get_or rows i 0 ≡ r → row_at rows r ≡ i + row_at (drop i rows) r → i ≡ row_at rows r
+row_found rows i r low is h =
+    let here : row_at (drop i rows) r ≡ 0 =
+    ap (λ v. row_at v r) (drop_more rows i 0 low) ∙ ap (λ b. cond b 0 (suc (row_at (drop (i + 1) rows) r))) (Rattle.std.proofs.Common.eq-eqb (get_or rows i 0) r is) in
+    omega (arith, h, here)
+
+pub row_later : (rows : List ℕ) (i r : ℕ) → i < length rows → get_or rows i 0 ≢ r → row_at rows r ≡ i + row_at (drop i rows) r → row_at rows r ≡ i + 1 + row_at (drop (i + 1) rows) r
+row_later rows i r low ne h =
+    let no : (get_or rows i 0 == r) ≡ false = Rattle.std.proofs.lemmas.Bool.ne_eqb (get_or rows i 0) r ne in
+    let there : row_at (drop i rows) r ≡ suc (row_at (drop (i + 1) rows) r) =
+    ap (λ v. row_at v r) (drop_more rows i 0 low) ∙ ap (λ b. cond b 0 (suc (row_at (drop (i + 1) rows) r))) no in
+    omega (arith, h, there)
+
+pub times_later : (rows : List ℕ) (i r : ℕ) → i < length rows → get_or rows i 0 ≢ r → times rows r ≡ times (drop i rows) r → times rows r ≡ times (drop (i + 1) rows) r
+times_later rows i r low ne h = h ∙ ap (λ v. times v r) (drop_more rows i 0 low) ∙ times_else (get_or rows i 0) r (drop (i + 1) rows) ne
+
+pub times_end : (rows : List ℕ) (i r : ℕ) → length rows ≤ i → 0 < times rows r → times rows r ≡ times (drop i rows) r → ⊥
+times_end rows i r high some h = omega (arith, some, h, ap (λ v. times v r) (drop_all i rows high))
+
+-- ---- the first plan
+blank : Sight
+blank = record { rows = 1 ∷ []; firsts = []; word = λ row place. 0 }
+
+blank_is : IsBlank blank
+unfolding blank
+blank_is = record { rows = refl; firsts = refl; word = λ place low. refl }
+
+first_fresh : (p : Pic) (need : ℕ) → rows_in p ≡ 1 ∷ [] → need ≤ 1000 → IsFresh p (from 2 need)
+first_fresh p need rows few = record {
+  once = λ r. (let same = ap (λ v. times v r) rows in by r (eqb_tells 1 r) (times (from 2 need) r) (from_once 2 need r) (λ some. (from_ranged 2 need r some).0) same);
+  low = λ r some. (let both = from_ranged 2 need r some in (omega (arith, both.0), (let small : r < 1002 = omega (arith, both.1, few) in omega (arith, small))));
+}
+  where
+    by : (r : ℕ) → ((eqb 1 r ≡ true) × (1 ≡ r)) ⊎ ((eqb 1 r ≡ false) × (1 ≢ r)) → (n : ℕ) → n ≤ 1 → (0 < n → 2 ≤ r) → times (rows_in p) r ≡ times (1 ∷ []) r → n + times (rows_in p) r ≤ 1
+    by r (inl same) n one ranged e = none r same.1 n one ranged (e ∙ ap (λ b. cond b 1 0 + 0) same.0)
+      where
+        none : (r : ℕ) → 1 ≡ r → (n : ℕ) → n ≤ 1 → (0 < n → 2 ≤ r) → times (rows_in p) r ≡ 1 + 0 → n + times (rows_in p) r ≤ 1
+        none r is zero one ranged e = omega (arith, e)
+        none r is (suc n) one ranged e = let two = ranged (omega arith) in absurd (omega (arith, two, is))
+    by r (inr other) n one ranged e = let zero_times : times (1 ∷ []) r ≡ 0 + 0 = ap (λ b. cond b 1 0 + 0) other.0 in omega (arith, one, e, zero_times)
+
+first_makes : (p : Pic) (q : Planned) (old : Sight) → ((r : ℕ) → times q.rows r ≤ 1) → Makes p q old (sight_of q)
+unfolding rows_in firsts_in installed
+first_makes p q old once = record {
+  rows = refl;
+  firsts = refl;
+  stay = λ r place some none low. absurd (omega (arith, some, none));
+  fresh = λ i place low small. ap (λ k. planned_word q k place) (row_here q.rows i (get_or q.rows i 0) low refl (once (get_or q.rows i 0)));
+}
+
+pub first_stands : (settings : Settings) (p : Pic) (old q : Planned) (state new : State) (rows : List ℕ) → Opens p → state ≡ nothing → IsPlan settings p old state new
+    → (IsPlan settings p old state new → IsFresh p rows → IsBound settings p q state new) → q.rows ≡ rows → rows ≡ from 2 old.need → old.need ≤ 1000 → Stands settings (sight_of q) q.root new
+unfolding blank
+first_stands settings p old q state new rows opens empty plan bind same numbered few =
+    let fresh : IsFresh p rows = subst (IsFresh p) (sym numbered) (first_fresh p old.need opens.1 few) in
+    let b = bind plan fresh in
+    let makes = first_makes p q blank (λ r. omega (arith, fresh.once r, ap (λ v. times v r) same)) in
+    let shown : Shows settings p blank state = subst (Shows settings p blank) (sym empty) (opens.2 settings blank blank_is) in
+    let shows = b.shows blank (sight_of q) shown makes in
+    record { served = shows.served; layout = layout_in (installed p q); by_rows = subst (λ root. Rattle.act_super.specs.Stands.StandsBy settings (sight_of q) root new (layout_in (installed p q))) b.top shows.by_rows }
