@@ -78,6 +78,9 @@ first_makes p q old once = record {
   fresh = λ i place low small. ap (λ k. planned_word q k place) (row_here q.rows i (get_or q.rows i 0) low refl (once (get_or q.rows i 0)));
 }
 
+pub first_shown : (settings : Settings) (p : Pic) (state : State) → Opens p → state ≡ nothing → (x : Sight) × Shows settings p x state
+first_shown settings p state opens empty = (blank, subst (Shows settings p blank) (sym empty) (opens.2 settings blank blank_is))
+
 pub first_stands : (settings : Settings) (p : Pic) (old q : Planned) (state new : State) (rows : List ℕ) → Opens p → state ≡ nothing → IsPlan settings p old state new
     → (IsPlan settings p old state new → IsFresh p rows → IsBound settings p q state new) → q.rows ≡ rows → rows ≡ from 2 old.need → old.need ≤ 1000 → Stands settings (sight_of q) q.root new
 unfolding blank
