@@ -3,42 +3,39 @@ use Rattle.std.proofs.Common.{◌≡◌, ◌≢◌, ℕ, zero, suc, ◌+◌, ◌
 use Rattle.std.specs.List.{All, AllByRecursion as Each, flat_map, sum_by}
 use Rattle.std.proofs.lemmas.Bool.Decides.{nat_tests}
 use Rattle.std.proofs.lemmas.List.{get_or_past, get_or-map, length-append, length-map}
-use Rattle.std.proofs.lemmas.List.Concat.{get_or-flat_map, length-flat_map}
+use Rattle.std.proofs.lemmas.List.Concat.{get_or-flat_map}
 use Rattle.std.proofs.lemmas.List.Elements.{All-from_recursion, recursion_from_All}
-use Rattle.std.proofs.lemmas.List.Sums.{sum_by-append, sum_by-cons}
+use Rattle.std.proofs.lemmas.List.Sums.{sum_by-cons}
 use Rattle.act_grid.specs.declared.Settings.{Settings}
-use Rattle.act_grid.specs.Cell.{Address, hull_of, root_cell}
+use Rattle.act_grid.specs.Cell.{Address, root_cell}
 use Rattle.act_geom.specs.Body.{body_of}
 use Rattle.act_base.specs.Counting.{times}
 use Rattle.act_base.specs.Sight.{Sight}
 use Rattle.act_base.proofs.Times.{times-append, times_get}
 use Rattle.act_cover.specs.Covering.{class_at, is_on, is_within}
 use Rattle.act_entry.specs.declared.reference.Ref.{Ref}
-use Rattle.act_entry.specs.declared.entry.Entry.{Entry}
 use Rattle.act_entry.specs.declared.entry.Entry.TheVariants as entry
 use Rattle.act_entry.specs.Entries.{entry_word}
 use Rattle.act_super.specs.declared.entry.State.{State}
 use Rattle.act_super.specs.declared.entry.Zone.{Zone}
-use Rattle.act_super.specs.declared.refs.ZoneRef.{ZoneRef}
-use Rattle.act_super.specs.Nodes.{IsNode, count_at, entry_cell, first_leaf, ground_of, is_parted, list_rows, node_children, node_leaves, nodes_of}
+use Rattle.act_super.specs.Nodes.{IsNode, count_at, entry_cell, first_leaf, ground_of, is_parted, node_children, node_leaves, nodes_of}
 use Rattle.act_super.specs.Packs.{list_words}
 use Rattle.act_super.specs.Sizes.{chain_rows, chains_of, refs_of, size_of}
 use Rattle.act_super.specs.Stands.{HasChain, HasList, IsRest, IsServed, Layout, StandsBy, entry_at, entry_for, leaf_entry, list_row, pairs_of, ref_in, refs_in, start_in, words_of}
 use Rattle.act_probe.proofs.EntryFacts.{node_deep}
 use Rattle.act_probe.proofs.NodeFacts.{Among, node_listed}
-use Rattle.act_probe.proofs.WayFacts.{first_in, root_is}
+use Rattle.act_probe.proofs.WayFacts.{root_is}
 use Rattle.act_image.specs.declared.chains.ChainPlace.{ChainPlace}
-use Rattle.act_image.specs.declared.lists.ListWord.{ListWord}
 use Rattle.act_image.specs.declared.lists.ListWord.TheVariants as list
-use Rattle.act_image.specs.Words.{Numbers, as_row, chain_number, chain_word, entry_in, list_number, no_chain, no_row, node_number, placed_entry, placed_ref, placed_word, word_of}
+use Rattle.act_image.specs.Words.{Numbers, as_row, chain_number, chain_word, entry_in, list_number, no_chain, no_row, placed_entry, placed_ref, placed_word, word_of}
 use Rattle.act_image.specs.Plans.{chain_first, chain_rows_from, lists_of, no_fill, pairs_in, refs_on, slot_ref, slot_refs, spots_of, words_in}
-use Rattle.act_image.specs.Pics.{HaveOwnKeys, IsBound, IsFresh, IsPlan, IsWhole, Makes, Pic, Planned, Shows, chain_of, firsts_in, installed, layout_in, no_node, node_at, node_of, part_of, planned_word, rows_in}
-use Rattle.act_image.proofs.FillFacts.{ChildAt, child_entry_is, entry_is_cell, leaf_among, leaf_entry_is}
-use Rattle.act_image.proofs.Leaves.{LeafIn, each_among, each_mono, first_leaf_is, leaves_are, node_reached}
-use Rattle.act_image.proofs.PackFacts.{FewRefs, IsFilled, LastIn, NoTwice, StandsAt, all_filled, ends, listed, refs_length, words_length}
+use Rattle.act_image.specs.Pics.{HaveOwnKeys, IsBound, IsFresh, IsPlan, IsWhole, Makes, Pic, Planned, Shows, chain_of, firsts_in, installed, layout_in, node_at, node_of, part_of, planned_word, rows_in}
+use Rattle.act_image.proofs.FillFacts.{child_entry_is, leaf_among, leaf_entry_is}
+use Rattle.act_image.proofs.Leaves.{each_among, each_mono}
+use Rattle.act_image.proofs.PackFacts.{LastIn, NoTwice, StandsAt, ends, listed, refs_length, words_length}
 use Rattle.act_image.proofs.PlaceFacts.{ChainAt, Found, OwnKeys, count_once, count_some, found, is_cell, once_count, one_place, own_keys, part_get, part_length, part_past, place_at, places_length, some_count, spots_at, spots_length, flat_within, chains_at}
 use Rattle.act_image.proofs.SizeFacts.{chain_count, empty_filled, few_refs, lists_count, whole_sized}
-use Rattle.act_image.proofs.WalkFacts.{node_leaves_once, nodes_are_under, size_is, under_once}
+use Rattle.act_image.proofs.WalkFacts.{node_leaves_once, nodes_are_under, under_once}
 
 lt_is : (a b : ℕ) → a < b → nat_lt a b ≡ true
 lt_is a b h = grind (arith, nat_tests)

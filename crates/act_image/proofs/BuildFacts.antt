@@ -16,7 +16,7 @@ use Rattle.act_image.specs.declared.chains.ChainRow.{ChainRow}
 use Rattle.act_image.specs.declared.chains.Chains.{Chains}
 use Rattle.act_image.specs.declared.lists.ListWord.{ListWord}
 use Rattle.act_image.specs.declared.lists.ListWord.TheVariants as list
-use Rattle.act_image.specs.Plans.{IsChains, behind_last, bodies_of, chain_first, chain_rows_from, chains_from, found_refs, pairs_in, place_first, refs_on, rows_from, slot_refs}
+use Rattle.act_image.specs.Plans.{IsChains, behind_last, chain_first, chain_rows_from, chains_from, found_refs, pairs_in, place_first, refs_on, rows_from, slot_refs}
 use Rattle.act_image.proofs.PlaceFacts.{rows_length}
 
 pub first_is : (first : ℕ) (zones : List Zone) (key : ℕ) → has_key key zones ≡ true → place_first (chains_from first zones) key ≡ first + chain_first zones key

@@ -1,5 +1,5 @@
 -- The entries that the spots of a node fill.
-use Rattle.std.proofs.Common.{◌≡◌, ◌≢◌, ℕ, zero, suc, ◌+◌, ◌-◌, ◌*◌, ◌/◌, ◌%◌, ◌^◌, ◌<◌, ◌≤◌, ◌⊎◌, inl, inr, Bool, true, false, cond, refl, sym, ap, ◌∙◌, subst, arith, List, [], ◌∷◌, ◌++◌, nat_lt, ◌&&◌, ◌==◌, eqb, length, get_or}
+use Rattle.std.proofs.Common.{◌≡◌, ◌≢◌, ℕ, suc, ◌+◌, ◌-◌, ◌*◌, ◌/◌, ◌^◌, ◌<◌, ◌≤◌, ◌⊎◌, inl, inr, Bool, true, false, cond, refl, sym, ap, ◌∙◌, subst, arith, List, [], ◌∷◌, ◌++◌, nat_lt, ◌&&◌, eqb, length, get_or}
 use Rattle.std.specs.Prelude.{nat_le}
 use Rattle.std.specs.List.{AllByRecursion as Each}
 use Rattle.std.proofs.lemmas.Bool.{ltb-true, ltb-false}
@@ -13,8 +13,8 @@ use Rattle.act_entry.specs.declared.entry.Entry.{Entry}
 use Rattle.act_entry.specs.declared.entry.Entry.TheVariants as entry
 use Rattle.act_super.specs.declared.entry.State.{State}
 use Rattle.act_super.specs.declared.entry.Zone.{Zone}
-use Rattle.act_super.specs.Grounds.{is_split, same_cell}
-use Rattle.act_super.specs.Nodes.{IsNode, entry_cell, first_leaf, ground_of, is_parted, list_start, node_children, node_leaves}
+use Rattle.act_super.specs.Grounds.{same_cell}
+use Rattle.act_super.specs.Nodes.{IsNode, entry_cell, first_leaf, is_parted, list_start, node_children, node_leaves}
 use Rattle.act_super.specs.Sizes.{refs_of}
 use Rattle.act_super.specs.Stands.{entry_for, start_in}
 use Rattle.act_probe.proofs.NodeFacts.{Among}

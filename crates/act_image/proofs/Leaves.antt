@@ -1,21 +1,19 @@
 -- Which leaf fills an entry of a node.
-use Rattle.std.proofs.Common.{◌≡◌, ℕ, zero, suc, ◌+◌, ◌-◌, ◌*◌, ◌/◌, ◌^◌, ◌<◌, ◌≤◌, ◌⊎◌, inl, inr, Bool, true, false, cond, refl, sym, ap, ◌∙◌, subst, arith, List, [], ◌∷◌, ◌++◌, nat_lt, ◌&&◌}
+use Rattle.std.proofs.Common.{◌≡◌, ℕ, zero, suc, ◌+◌, ◌-◌, ◌*◌, ◌/◌, ◌^◌, ◌<◌, ◌≤◌, ◌⊎◌, inl, inr, Bool, true, false, cond, refl, sym, ap, ◌∙◌, subst, arith, List, [], ◌∷◌, ◌++◌, nat_lt}
 use Rattle.std.specs.List.{AllByRecursion as Each}
 use Rattle.std.proofs.lemmas.Bool.{le-ltb}
 use Rattle.std.proofs.lemmas.Bool.Decides.{nat_tests}
 use Rattle.std.proofs.lemmas.Nat.{div_below, pow-add, pow_pos, shr-shr}
-use Rattle.act_grid.specs.declared.Point.{Point}
 use Rattle.act_grid.specs.declared.Settings.{Settings}
 use Rattle.act_grid.specs.Hull.{IsIn}
 use Rattle.act_grid.specs.Cell.{Address, IsCell, IsPart, child_of, hull_of, root_cell}
 use Rattle.act_grid.proofs.CellFacts.{four}
 use Rattle.act_grid.proofs.CellOrder.{child_within, in_within, one_cell, part_from_point, part_within, some_child}
 use Rattle.act_super.specs.declared.entry.State.{State}
-use Rattle.act_super.specs.Grounds.{Ground, is_split, leaf_at, leaf_within, some_asks}
+use Rattle.act_super.specs.Grounds.{is_split}
 use Rattle.act_super.specs.Laws.{IsLeaf}
 use Rattle.act_super.specs.NodeParts.{leaves_near, splits_near}
 use Rattle.act_super.specs.Nodes.{IsNode, first_leaf, ground_of, is_parted}
-use Rattle.act_super.specs.Sizes.{leaf_of}
 use Rattle.act_super.proofs.LawFacts.{leaf_holds_point, one_leaf}
 use Rattle.act_probe.proofs.NodeFacts.{Among}
 use Rattle.act_probe.proofs.WayFacts.{first_in, in_root}

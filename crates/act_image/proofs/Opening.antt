@@ -11,11 +11,11 @@ use Rattle.act_base.specs.Sight.{Sight}
 use Rattle.act_entry.specs.declared.entry.Entry.TheVariants as entry
 use Rattle.act_entry.specs.Entries.{entry_word}
 use Rattle.act_super.specs.Grounds.{Ground, leaf_at, leaf_within}
-use Rattle.act_super.specs.Nodes.{IsNode, entry_cell, first_leaf, ground_of, is_parted, list_rows, node_leaves, nodes_of, pack_of}
+use Rattle.act_super.specs.Nodes.{IsNode, entry_cell, first_leaf, ground_of, is_parted, node_leaves, nodes_of, pack_of}
 use Rattle.act_super.specs.Packs.{empty_pack}
 use Rattle.act_super.specs.States.{nothing}
-use Rattle.act_super.specs.Stands.{IsBlank, Layout, StandsBy, rows_in as rows_of}
-use Rattle.act_image.specs.Pics.{Opens, Pic, Shows, firsts_in, layout_in, rows_in}
+use Rattle.act_super.specs.Stands.{IsBlank, StandsBy, rows_in as rows_of}
+use Rattle.act_image.specs.Pics.{Opens, Pic, firsts_in, layout_in, rows_in}
 
 no_leaf : {X : Type 0} (g : Ground X) (n : ℕ) (c : Address) (p : Point) → leaf_within g n [] c p ≡ c
 unfolding leaf_within

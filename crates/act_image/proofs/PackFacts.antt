@@ -1,22 +1,19 @@
 -- The lists of a node in its list rows.
-use Rattle.std.proofs.Common.{◌≡◌, ◌≢◌, ℕ, zero, suc, ◌+◌, ◌-◌, ◌*◌, ◌/◌, ◌<◌, ◌≤◌, ◌⊎◌, inl, inr, Bool, true, false, cond, refl, sym, ap, ◌∙◌, subst, arith, List, [], ◌∷◌, ◌++◌, nat_lt, length, get_or, map, Option, Some, None}
+use Rattle.std.proofs.Common.{◌≡◌, ◌≢◌, ℕ, zero, suc, ◌+◌, ◌-◌, ◌/◌, ◌<◌, ◌≤◌, ◌⊎◌, inl, inr, Bool, true, false, cond, refl, sym, ap, ◌∙◌, subst, arith, List, [], ◌∷◌, ◌++◌, nat_lt, length, get_or}
 use Rattle.std.proofs.lemmas.List.{length-append, length-map, get_or_past, get_or_append_left, get_or-append-add, get_or_push}
 use Rattle.std.proofs.lemmas.Bool.Decides.{nat_tests}
-use Rattle.act_grid.specs.declared.Settings.{Settings}
 use Rattle.act_grid.specs.Cell.{Address}
 use Rattle.act_entry.specs.declared.reference.Ref.{Ref}
-use Rattle.act_super.specs.declared.entry.State.{State}
 use Rattle.act_super.specs.declared.entry.Zone.{Zone}
 use Rattle.act_super.specs.Grounds.{same_cell}
-use Rattle.act_super.specs.Nodes.{Start, list_rows, list_start, node_leaves, pack_of}
+use Rattle.act_super.specs.Nodes.{Start, list_start, pack_of}
 use Rattle.act_super.specs.Packs.{list_words}
 use Rattle.act_super.specs.Sizes.{refs_of}
-use Rattle.act_super.specs.Stands.{start_in}
 use Rattle.act_probe.proofs.NodeFacts.{Among}
 use Rattle.act_image.specs.declared.lists.Fill.{Fill}
 use Rattle.act_image.specs.declared.lists.ListWord.{ListWord}
 use Rattle.act_image.specs.declared.lists.ListWord.TheVariants as list
-use Rattle.act_image.specs.Plans.{behind_last, filled, lists_of, no_fill, pairs_in, put_list, put_lists, refs_on, slot_ref, start_at, words_in}
+use Rattle.act_image.specs.Plans.{behind_last, filled, pairs_in, put_list, put_lists, refs_on, slot_ref, start_at, words_in}
 use Rattle.act_image.proofs.FillFacts.{other_is, same_is, same_self}
 
 -- ---- the words of a list

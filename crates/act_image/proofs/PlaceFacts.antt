@@ -1,10 +1,9 @@
 -- Where nodes, lists and chains stand among the rows.
 use Rattle.std.proofs.Common.{◌≡◌, ◌≢◌, ℕ, zero, suc, ◌+◌, ◌-◌, ◌*◌, ◌/◌, ◌%◌, ◌^◌, ◌<◌, ◌≤◌, ◌⊎◌, inl, inr, Bool, true, false, cond, refl, sym, ap, ◌∙◌, subst, arith, List, [], ◌∷◌, ◌++◌, nat_lt, ◌&&◌, ◌==◌, eqb, length, get_or, map, take, drop}
 use Rattle.std.specs.List.{AllByRecursion as Each, flat_map, sum_by}
-use Rattle.std.proofs.lemmas.Bool.Decides.{eqb_tells, nat_tests}
 use Rattle.std.proofs.lemmas.Bool.{ne_eqb}
 use Rattle.std.proofs.lemmas.List.{append_assoc, append-nil, length-append, length-map, length-drop, length-take-le, get_or_past, get_or-take, get_or-drop, get_or_append_left, get_or-append-add, drop-drop, drop_more}
-use Rattle.std.proofs.lemmas.List.Sums.{sum_by-append, sum_by-cons}
+use Rattle.std.proofs.lemmas.List.Sums.{sum_by-cons}
 use Rattle.act_grid.specs.declared.Settings.{Settings}
 use Rattle.act_grid.specs.Cell.{Address, root_cell}
 use Rattle.act_base.specs.Counting.{times}
@@ -17,9 +16,7 @@ use Rattle.act_super.specs.Nodes.{node_children}
 use Rattle.act_super.specs.Sizes.{chain_rows}
 use Rattle.act_probe.proofs.NodeFacts.{Among}
 use Rattle.act_image.specs.declared.chains.ChainPlace.{ChainPlace}
-use Rattle.act_image.specs.declared.chains.ChainRow.{ChainRow}
 use Rattle.act_image.specs.declared.nodes.NodePlace.{NodePlace}
-use Rattle.act_image.specs.declared.spots.Spot.{Spot}
 use Rattle.act_image.specs.Words.{no_chain, no_row}
 use Rattle.act_image.specs.Plans.{bodies_of, chain_first, chain_rows_from, chains_from, lists_of, places_from, rows_from, spots_from, spots_of}
 use Rattle.act_image.specs.Pics.{HaveOwnKeys, chain_of, no_node, node_at, node_of, part_of}

@@ -1,15 +1,12 @@
 -- The state after a change is one that an image may stand for.
-use Rattle.std.proofs.Common.{◌≡◌, ◌≢◌, ℕ, zero, suc, ◌+◌, ◌*◌, ◌^◌, ◌<◌, ◌≤◌, ◌⊎◌, inl, inr, Bool, true, false, cond, ◌&&◌, ◌||◌, refl, sym, ap, ◌∙◌, subst, arith, List, [], ◌∷◌, ◌++◌, ◌==◌, eqb, length, get_or, map, Option, Some, None, nat_lt, not}
-use Rattle.std.specs.Prelude.{max, int_lt}
-use Rattle.std.specs.List.{All, AllByRecursion as Each, filter, flat_map, list_any}
+use Rattle.std.proofs.Common.{◌≡◌, ◌≢◌, ℕ, zero, suc, ◌+◌, ◌^◌, ◌<◌, ◌≤◌, ◌⊎◌, inl, inr, Bool, true, false, cond, ◌&&◌, ◌||◌, refl, sym, ap, ◌∙◌, subst, arith, List, [], ◌∷◌, ◌++◌, ◌==◌, eqb, length, get_or, map, Option, Some, None, nat_lt, not}
+use Rattle.std.specs.List.{All, AllByRecursion as Each, flat_map}
 use Rattle.std.proofs.lemmas.Bool.Decides.{eqb_tells, nat_tests}
-use Rattle.std.proofs.lemmas.Bool.{ne_eqb}
 use Rattle.std.proofs.lemmas.List.Elements.{All-from_recursion, recursion_from_All}
 use Rattle.act_grid.specs.declared.Point.{Point}
 use Rattle.act_grid.specs.declared.Settings.{Settings}
 use Rattle.act_grid.specs.Cell.{Address, IsCell, child_of, root_cell}
 use Rattle.act_geom.specs.Rings.{IsShape, vertices_of}
-use Rattle.act_geom.specs.declared.shape.TheConstants.{MOST_VERTICES}
 use Rattle.act_cover.proofs.Placed.{child_cell}
 use Rattle.act_base.specs.Counting.{times}
 use Rattle.act_base.specs.Sight.{Sight}
@@ -24,8 +21,8 @@ use Rattle.act_super.specs.Grounds.{Ground, asks, is_among, is_mixed, leaf_at, l
 use Rattle.act_super.specs.Nodes.{count_at, ground_of, nodes_of}
 use Rattle.act_super.specs.Sizes.{chain_rows, most_references}
 use Rattle.act_super.specs.Stands.{HasChain, IsServed, Layout, StandsBy}
-use Rattle.act_super.specs.States.{after, changed, first_cause, has_key, key_of, key_verdict, reshaped, room_of, room_verdict, shape_of, trained_after, verdict_of, with_zone, without_key}
-use Rattle.act_super.specs.Trees.{Tree, most, tree_of, under}
+use Rattle.act_super.specs.States.{after, changed, first_cause, has_key, key_of, key_verdict, reshaped, room_verdict, shape_of, verdict_of, with_zone, without_key}
+use Rattle.act_super.specs.Trees.{most, tree_of, under}
 use Rattle.act_super.specs.Trees.Tree.{Leaf, Split}
 use Rattle.act_super.proofs.StandingFacts.{outside_below}
 use Rattle.act_super.proofs.TreeFacts.{GoesDown, on_below}

@@ -1,15 +1,14 @@
 -- The walk over all nodes, one node a step.
-use Rattle.std.proofs.Common.{◌≡◌, ℕ, zero, suc, ◌+◌, ◌%◌, ◌<◌, ◌≤◌, refl, sym, ap, ◌∙◌, subst, arith, List, [], ◌∷◌, ◌++◌, length, get_or, take, drop, inl, inr}
+use Rattle.std.proofs.Common.{◌≡◌, ℕ, zero, suc, ◌+◌, ◌%◌, ◌<◌, ◌≤◌, sym, ap, ◌∙◌, subst, arith, List, [], ◌∷◌, ◌++◌, length, get_or, take, drop, inr}
 use Rattle.std.specs.List.{AllByRecursion as Each, flat_map, sum_by}
-use Rattle.std.proofs.lemmas.List.{append-nil, append_assoc, length-append, length-take-le, take-append-le, take_more, drop-append-le, drop_more}
+use Rattle.std.proofs.lemmas.List.{append-nil, length-append, take-append-le, take_more, drop-append-le, drop_more}
 use Rattle.std.proofs.lemmas.List.Concat.{flat_map-append}
 use Rattle.std.proofs.lemmas.List.Sums.{sum_by-append, sum_by-cons}
 use Rattle.act_grid.specs.declared.Settings.{Settings}
 use Rattle.act_grid.specs.Cell.{Address, root_cell}
 use Rattle.act_super.specs.declared.entry.State.{State}
-use Rattle.act_super.specs.Nodes.{IsNode, ground_of, node_children, node_leaves, nodes_of}
+use Rattle.act_super.specs.Nodes.{IsNode, ground_of, node_children, node_leaves}
 use Rattle.act_probe.proofs.EntryFacts.{node_deep, root_node}
-use Rattle.act_image.specs.declared.nodes.NodePlace.{NodePlace}
 use Rattle.act_image.specs.declared.walk.Nodes.{Nodes}
 use Rattle.act_image.specs.Plans.{IsLeafOf, IsWalk, lists_of, nodes_from, places_from, spots_from, spots_of}
 use Rattle.act_image.proofs.Leaves.{LeafIn, SplitIn, each_append, each_mono, leaves_are, node_reached, split_parted, splits_are}

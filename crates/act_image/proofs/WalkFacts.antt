@@ -1,5 +1,5 @@
 -- The nodes of a state, from each node to its child nodes.
-use Rattle.std.proofs.Common.{◌≡◌, ◌≢◌, ℕ, zero, suc, ◌+◌, ◌-◌, ◌*◌, ◌/◌, ◌%◌, ◌^◌, ◌<◌, ◌≤◌, ◌⊎◌, inl, inr, Bool, true, false, cond, refl, sym, ap, ◌∙◌, subst, arith, List, [], ◌∷◌, ◌++◌, nat_lt, ◌&&◌, ◌==◌, eqb, length, get_or, map}
+use Rattle.std.proofs.Common.{◌≡◌, ◌≢◌, ℕ, zero, suc, ◌+◌, ◌-◌, ◌%◌, ◌<◌, ◌≤◌, ◌⊎◌, inl, inr, Bool, true, false, cond, refl, sym, ap, ◌∙◌, subst, arith, List, [], ◌∷◌, ◌++◌, nat_lt, ◌==◌, length}
 use Rattle.std.specs.List.{AllByRecursion as Each, flat_map, sum_by}
 use Rattle.std.proofs.lemmas.Bool.Decides.{nat_tests}
 use Rattle.std.proofs.lemmas.List.{append_assoc, append-nil, length-map}
@@ -9,19 +9,18 @@ use Rattle.act_grid.specs.declared.Settings.{Settings}
 use Rattle.act_grid.specs.Hull.{IsIn}
 use Rattle.act_grid.specs.Cell.{Address, IsCell, child_of, hull_of, root_cell}
 use Rattle.act_grid.proofs.CellOrder.{child_within, in_within, one_cell}
-use Rattle.act_cover.specs.Covering.{class_at, is_on, is_within}
+use Rattle.act_cover.specs.Covering.{class_at, is_within}
 use Rattle.act_super.specs.declared.entry.State.{State}
 use Rattle.act_super.specs.declared.entry.Zone.{Zone}
-use Rattle.act_super.specs.declared.refs.ZoneRef.{ZoneRef}
 use Rattle.act_super.specs.Grounds.{Ground, is_split, on, some_asks}
 use Rattle.act_super.specs.NodeParts.{leaves_near, splits_near}
-use Rattle.act_super.specs.Nodes.{IsNode, count_at, ground_of, list_rows, node_children, node_leaves, nodes_of, nodes_within, pack_of}
+use Rattle.act_super.specs.Nodes.{IsNode, count_at, ground_of, list_rows, node_leaves, nodes_of, nodes_within, pack_of}
 use Rattle.act_super.specs.Packs.{empty_pack, inner, node_rows, put_leaf, put_tree}
-use Rattle.act_super.specs.Sizes.{chains_of, refs_of, rows_with, size_of, tree_rows}
+use Rattle.act_super.specs.Sizes.{chains_of, rows_with, size_of, tree_rows}
 use Rattle.act_super.specs.Trees.{Tree, tree_of, under}
 use Rattle.act_super.specs.Trees.Tree.{Leaf, Split}
 use Rattle.act_probe.proofs.NodeFacts.{Among}
-use Rattle.act_probe.proofs.WayFacts.{first_in, root_is}
+use Rattle.act_probe.proofs.WayFacts.{first_in}
 use Rattle.act_image.proofs.Leaves.{LeafIn, Reached, child_cell, each_among, leaves_are, node_reached}
 use Rattle.act_image.proofs.PackFacts.{NoTwice}
 

@@ -1,5 +1,5 @@
 -- The words of the rows of a plan, which name rows by where they stand among the rows of their kind.
-use Rattle.std.specs.Prelude.{ℕ, zero, suc, ◌+◌, ◌-◌, ◌*◌, ◌^◌, ◌==◌, ◌&&◌, Bool, cond, nat_le, nat_lt, min, List, [], ◌∷◌, Option, Some, None, length, map, slice_index, slice_index_or}
+use Rattle.std.specs.Prelude.{ℕ, zero, suc, ◌+◌, ◌-◌, ◌*◌, ◌^◌, ◌==◌, ◌&&◌, Bool, cond, nat_le, nat_lt, min, List, [], ◌∷◌, slice_index, slice_index_or}
 use Rattle.std.specs.Option.{option_map}
 use Rattle.act_entry.specs.declared.reference.Ref.{Ref}
 use Rattle.act_entry.specs.declared.entry.Entry.{Entry}

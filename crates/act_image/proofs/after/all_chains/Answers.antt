@@ -1,4 +1,4 @@
-use Rattle.std.proofs.Common.{◌≡◌, ◌<◌, ◌≤◌, arith, drop, length, refl, ◌∙◌}
+use Rattle.std.proofs.Common.{◌<◌, ◌≤◌, arith, drop, length, refl}
 use Rattle.std.proofs.lemmas.List.{drop_all}
 use Rattle.act_image.proofs.AfterFacts.{begin_all, end_all, next_all, put_own}
 use Rattle.act_image.proofs.after.all_chains.Goals as goal

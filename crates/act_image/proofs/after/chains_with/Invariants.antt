@@ -1,4 +1,4 @@
-use Rattle.std.proofs.Common.{◌≡◌, ◌++◌, ◌≤◌, ◌-◌, List, drop, length}
+use Rattle.std.proofs.Common.{◌≤◌, ◌-◌, drop, length}
 use Rattle.act_super.specs.States.{with_zone}
 use Rattle.act_image.proofs.AfterFacts.{ChainsUpTo}
 use Rattle.act_image.proofs.after.chains_with.Given as goal

@@ -1,4 +1,4 @@
-use Rattle.std.proofs.Common.{◌≡◌, ◌≢◌, ◌<◌, ◌≤◌, [], ap, arith, drop, length, refl, sym, ◌∙◌}
+use Rattle.std.proofs.Common.{◌<◌, ◌≤◌, ap, arith, drop, length, refl, sym, ◌∙◌}
 use Rattle.std.proofs.lemmas.List.{drop_all}
 use Rattle.act_super.specs.States.{without_key}
 use Rattle.act_image.proofs.AfterFacts.{begin_all, end_all, next_dropped, next_kept, not_put, put_own}

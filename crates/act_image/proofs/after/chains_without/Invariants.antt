@@ -1,5 +1,4 @@
-use Rattle.std.proofs.Common.{◌≡◌, ◌++◌, List, drop}
-use Rattle.act_super.specs.declared.entry.Zone.{Zone}
+use Rattle.std.proofs.Common.{drop}
 use Rattle.act_super.specs.States.{without_key}
 use Rattle.act_image.proofs.AfterFacts.{ChainsUpTo}
 use Rattle.act_image.proofs.after.chains_without.Given as goal

@@ -1,6 +1,6 @@
-use Rattle.std.proofs.Common.{◌≡◌, ◌<◌, ◌≤◌, ◌++◌, arith, drop, length, refl, ◌∙◌}
+use Rattle.std.proofs.Common.{◌<◌, ◌≤◌, ◌++◌, arith, drop, length, refl}
 use Rattle.std.proofs.lemmas.List.{drop_all}
-use Rattle.act_image.proofs.AfterFacts.{ChainsUpTo, end_all, next_all, put_own}
+use Rattle.act_image.proofs.AfterFacts.{end_all, next_all, put_own}
 use Rattle.act_image.proofs.after.push_rest.Goals as goal
 
 pub loop-i-init : goal.loop-i-init

@@ -1,4 +1,4 @@
-use Rattle.std.proofs.Common.{◌≡◌, ◌++◌, List, drop}
+use Rattle.std.proofs.Common.{◌++◌, List, drop}
 use Rattle.act_super.specs.declared.entry.Zone.{Zone}
 use Rattle.act_image.specs.Plans.{IsChains}
 use Rattle.act_image.proofs.AfterFacts.{ChainsUpTo}

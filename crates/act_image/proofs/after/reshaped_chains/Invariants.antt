@@ -1,4 +1,4 @@
-use Rattle.std.proofs.Common.{◌≡◌, ◌++◌, List, drop}
+use Rattle.std.proofs.Common.{drop}
 use Rattle.act_super.specs.States.{reshaped}
 use Rattle.act_image.proofs.AfterFacts.{ChainsUpTo}
 use Rattle.act_image.proofs.after.reshaped_chains.Given as goal

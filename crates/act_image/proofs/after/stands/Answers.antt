@@ -1,5 +1,4 @@
-use Rattle.std.proofs.Common.{◌≡◌, ◌≢◌, arith, sym, ◌∙◌}
-use Rattle.act_super.specs.States.{zone_key_at}
+use Rattle.std.proofs.Common.{arith, sym, ◌∙◌}
 use Rattle.act_image.proofs.AfterFacts.{has_here, has_later}
 use Rattle.act_image.proofs.after.stands.Goals as goal
 

@@ -1,4 +1,4 @@
-use Rattle.std.proofs.Common.{◌≡◌, ◌≢◌, ℕ, ◌+◌, ◌-◌, ◌<◌, ◌++◌, [], ap, arith, get_or, length, set, ◌∙◌}
+use Rattle.std.proofs.Common.{◌≡◌, ◌+◌, ◌-◌, ◌++◌, ap, arith, length, set, ◌∙◌}
 use Rattle.act_image.specs.Plans.{words_in}
 use Rattle.act_image.proofs.BuildFacts.{behind_set}
 use Rattle.act_image.proofs.lists.put_behind.Goals as goal

@@ -1,4 +1,4 @@
-use Rattle.std.proofs.Common.{◌≡◌, ◌≤◌, ap, arith, length, ◌∙◌}
+use Rattle.std.proofs.Common.{◌≤◌, ap, arith, length, ◌∙◌}
 use Rattle.act_base.specs.Counting.{from}
 use Rattle.act_base.proofs.Times.{length-from}
 use Rattle.act_super.specs.States.{after}

@@ -1,4 +1,4 @@
-use Rattle.std.proofs.Common.{◌≡◌, subst, sym, ◌∙◌}
+use Rattle.std.proofs.Common.{subst, sym, ◌∙◌}
 use Rattle.act_super.specs.States.{after}
 use Rattle.act_super.specs.Stands.{Stands}
 use Rattle.act_image.specs.declared.tests.Stored.{Stored}

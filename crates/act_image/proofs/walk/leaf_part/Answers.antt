@@ -1,5 +1,4 @@
-use Rattle.std.proofs.Common.{◌≡◌, ◌+◌, ℕ, ap, arith, length, sym, ◌∙◌}
-use Rattle.act_grid.specs.Cell.{entries_filled, first_entry}
+use Rattle.std.proofs.Common.{◌≡◌, ◌+◌, ap, arith, length, ◌∙◌}
 use Rattle.act_super.specs.Sizes.{refs_of}
 use Rattle.act_super.specs.Stands.{entry_for}
 use Rattle.act_super.specs.States.{changed}

@@ -1,4 +1,4 @@
-use Rattle.std.proofs.Common.{◌≡◌, ap, ◌∙◌}
+use Rattle.std.proofs.Common.{ap, ◌∙◌}
 use Rattle.act_image.specs.Plans.{place_first}
 use Rattle.act_image.proofs.BuildFacts.{first_here, first_none}
 use Rattle.act_image.proofs.chains.Chains.first.Goals as goal

@@ -1,5 +1,5 @@
-use Rattle.std.proofs.Common.{◌≡◌, ap, arith, length, refl, sym, ◌∙◌}
-use Rattle.act_image.specs.Pics.{Pic, Planned, installed}
+use Rattle.std.proofs.Common.{◌≡◌, ap, arith, length}
+use Rattle.act_image.specs.Pics.{Planned, installed}
 use Rattle.act_image.proofs.image.Image.install.Goals as goal
 
 pub returns : goal.returns

@@ -1,4 +1,4 @@
-use Rattle.std.proofs.Common.{◌≡◌, ℕ, ◌+◌, ◌-◌, ◌<◌, ◌≤◌, ap, arith, length, sym, ◌∙◌}
+use Rattle.std.proofs.Common.{◌≡◌, ap, arith, length, sym, ◌∙◌}
 use Rattle.act_image.specs.Pics.{Planned}
 use Rattle.act_image.proofs.WordFacts.{word_chain, word_list, word_node}
 use Rattle.act_image.proofs.plan.Plan.word.Goals as goal

@@ -1,4 +1,4 @@
-use Rattle.std.proofs.Common.{◌≡◌, ◌++◌, [], ◌∷◌, ap, ◌∙◌}
+use Rattle.std.proofs.Common.{◌++◌, [], ◌∷◌, ◌∙◌}
 use Rattle.act_super.specs.States.{after}
 use Rattle.act_image.proofs.StepFacts.{root_walk}
 use Rattle.act_image.proofs.walk.Nodes.root.Goals as goal

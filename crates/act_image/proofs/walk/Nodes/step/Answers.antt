@@ -1,11 +1,10 @@
-use Rattle.std.proofs.Common.{◌≡◌, ◌≤◌, ◌+◌, ◌++◌, [], ◌∷◌, List, ap, arith, get_or, length, subst, sym, ◌∙◌}
+use Rattle.std.proofs.Common.{◌≡◌, ◌++◌, [], ◌∷◌, ap, arith, get_or, length, subst, sym, ◌∙◌}
 use Rattle.std.proofs.lemmas.List.{get_or_read}
-use Rattle.act_grid.specs.Cell.{Address, root_cell}
+use Rattle.act_grid.specs.Cell.{root_cell}
 use Rattle.act_super.specs.declared.entry.State.{State}
 use Rattle.act_super.specs.States.{after}
-use Rattle.act_super.specs.Nodes.{IsNode, node_children, node_leaves}
+use Rattle.act_super.specs.Nodes.{node_children, node_leaves}
 use Rattle.act_probe.proofs.EntryFacts.{node_deep}
-use Rattle.act_image.specs.declared.spots.Spot.{Spot}
 use Rattle.act_image.specs.Plans.{IsLeafOf, child_spots, leaf_spots, lists_of, no_fill, put_lists, spots_of}
 use Rattle.act_image.proofs.StepFacts.{child_of_node, leaf_of_node, next_walk, node_there}
 use Rattle.act_image.proofs.walk.Nodes.step.Goals as goal
