@@ -1,0 +1,9 @@
+pub mod Histories
+pub mod Writing
+pub mod Carrying
+pub mod Carried
+pub mod Opening
+pub mod Joining
+pub mod Answering
+pub mod Coding
+pub mod Running
