@@ -17,12 +17,15 @@ use Rattle.act_script.specs.declared.fault.LineFault.TheVariants as fault
 use Rattle.act_script.specs.declared.item.Item.{Item}
 use Rattle.act_script.specs.declared.item.Item.TheVariants as item
 
--- a key, and the id of a point
+-- a key, the id of a point, and the threshold of a training, which is not 0
 abbrev pub key_of : Field → Said ℕ
 key_of text = required fault.Key (whole_of (2 ^ 32 - 1) text)
 
 abbrev pub id_of : Field → Said ℕ
 id_of text = required fault.PointId (whole_of (2 ^ 64 - 1) text)
+
+abbrev pub threshold_of : Field → Said ℕ
+threshold_of text = required fault.Threshold (option_and_then (λ n. if n == 0 then None else Some n) (whole_of (2 ^ 32 - 1) text))
 
 -- a coordinate, or the fault of its number
 abbrev pub coordinate : Result ℤ NumFault → Said ℤ
@@ -61,6 +64,9 @@ abbrev pub point_item : ℕ → Field → Field → Field → Said Item
 point_item digits id x y =
     id_of id >>= λ i. coordinate (value_of digits x) >>= λ east. coordinate (value_of digits y) >>= λ north. Ok (item.At i (record { x = east; y = north }))
 
+abbrev pub train_item : Field → Said Item
+train_item text = threshold_of text >>= λ threshold. Ok (item.Train threshold)
+
 abbrev pub layers_item : Field → Said Item
 layers_item text = required fault.Layers (set_of text) >>= λ set. Ok (item.Layers set)
 
@@ -72,6 +78,7 @@ with_fields n fields said = if length fields == n then said else Err fault.Field
 abbrev pub brief_item : List Field → Field → Said Item
 brief_item fields kind =
     if bytes_eq kind (codes "drop") then with_fields 2 fields (drop_item (field_text fields 1))
+    else if bytes_eq kind (codes "train") then with_fields 2 fields (train_item (field_text fields 1))
     else if bytes_eq kind (codes "batch") then with_fields 1 fields (Ok item.Batch)
     else if bytes_eq kind (codes "sync") then with_fields 1 fields (Ok item.Sync)
     else if bytes_eq kind (codes "layers") then with_fields 2 fields (layers_item (field_text fields 1))

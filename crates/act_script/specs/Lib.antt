@@ -8,5 +8,6 @@ pub mod Items
 pub mod Segments
 pub mod Pending
 pub mod Script
+pub mod Turns
 pub mod History
 pub mod Text

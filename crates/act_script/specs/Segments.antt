@@ -1,6 +1,7 @@
 -- How items are grouped into batches and segments.
-use Rattle.std.specs.Prelude.{◌+◌, ◌==◌, ◌||◌, ◌++◌, ◌≡◌, ℕ, Bool, true, false, List, [], ◌∷◌, Option, Some, None, count_by, if◌then◌else◌, length, nat_le, sum_by}
+use Rattle.std.specs.Prelude.{◌+◌, ◌≤◌, ◌==◌, ◌||◌, ◌++◌, ◌≡◌, ℕ, Bool, true, false, List, [], ◌∷◌, Option, Some, None, count_by, if◌then◌else◌, length, nat_le, sum_by}
 use Rattle.std.specs.Option.{option_to_list}
+use Rattle.std.specs.List.{AllByRecursion}
 use Rattle.act_grid.specs.declared.Layers.{Layers}
 use Rattle.act_grid.specs.declared.Point.{Point}
 use Rattle.act_grid.specs.Layers.{all_layers}
@@ -39,6 +40,7 @@ abbrev pub update_vertices : Update → ℕ
 update_vertices (update.Add key shape) = vertices_of shape
 update_vertices (update.DropZone key) = 0
 update_vertices (update.Replace key shape) = vertices_of shape
+update_vertices (update.Train threshold) = 0
 
 abbrev pub step_vertices : Step → ℕ
 step_vertices (step.Batch batch) = 0
@@ -80,6 +82,7 @@ with_item p (item.At id point) = cut_batch (with_point p id point)
 with_item p (item.Zone key shape) = with_update p (update.Add key shape)
 with_item p (item.DropZone key) = with_update p (update.DropZone key)
 with_item p (item.Replace key shape) = with_update p (update.Replace key shape)
+with_item p (item.Train threshold) = with_update p (update.Train threshold)
 with_item p item.Batch = with_batch p
 with_item p (item.Layers set) = record (with_batch p) { layers = set }
 with_item p item.Sync = p
@@ -95,6 +98,7 @@ is_sync (item.At id point) = false
 is_sync (item.Zone key shape) = false
 is_sync (item.DropZone key) = false
 is_sync (item.Replace key shape) = false
+is_sync (item.Train threshold) = false
 is_sync item.Batch = false
 is_sync (item.Layers set) = false
 
@@ -129,6 +133,31 @@ closed_segments p (item ∷ items) = option_to_list (given_by p item) ++ closed_
 abbrev pub segments_from : Pending → List Item → List (List Step)
 segments_from p [] = option_to_list (closed_segment p)
 segments_from p (item ∷ items) = option_to_list (given_by p item) ++ segments_from (pending_by p item) items
+
+-- the threshold of a training is above 0
+abbrev pub HasThreshold : Update → Type 0
+HasThreshold (update.Add key shape) = Unit {0}
+HasThreshold (update.DropZone key) = Unit {0}
+HasThreshold (update.Replace key shape) = Unit {0}
+HasThreshold (update.Train threshold) = 1 ≤ threshold
+
+-- the same of an item, and of the updates among steps
+abbrev pub ItemHasThreshold : Item → Type 0
+ItemHasThreshold (item.Train threshold) = HasThreshold (update.Train threshold)
+ItemHasThreshold (item.At id point) = Unit {0}
+ItemHasThreshold (item.Zone key shape) = Unit {0}
+ItemHasThreshold (item.DropZone key) = Unit {0}
+ItemHasThreshold (item.Replace key shape) = Unit {0}
+ItemHasThreshold item.Batch = Unit {0}
+ItemHasThreshold (item.Layers set) = Unit {0}
+ItemHasThreshold item.Sync = Unit {0}
+
+abbrev pub StepHasThreshold : Step → Type 0
+StepHasThreshold (step.Batch batch) = Unit {0}
+StepHasThreshold (step.Update change) = HasThreshold change
+
+abbrev pub HaveThresholds : List Step → Type 0
+HaveThresholds = AllByRecursion StepHasThreshold
 
 -- nothing is held of the items so far
 pub record HoldsNothing (p : Pending) : Type 0 where

@@ -1,6 +1,7 @@
 -- What is written for a script.
 use Rattle.std.specs.Prelude.{◌≡◌, ◌+◌, ◌≤◌, ◌++◌, ℕ, List, [], ◌∷◌, All, Option, Some, None, codes, decimal, drop, length, replicate, slice_index, take}
 use Rattle.std.specs.List.{flat_map}
+use Rattle.act_grid.specs.declared.Point.{Point}
 use Rattle.act_grid.specs.declared.Settings.{Settings}
 use Rattle.act_super.specs.declared.entry.Entry.{Entry}
 use Rattle.act_super.specs.declared.entry.Entry.TheVariants as entry
@@ -11,19 +12,22 @@ use Rattle.act_super.specs.Histories.{zones_after}
 use Rattle.act_super.specs.Joins.{Hit, join}
 use Rattle.act_super.specs.Packs.{reference_limit}
 use Rattle.act_super.specs.States.{nothing, verdict_of}
-use Rattle.act_script.specs.History.{accepted_from, decided, entries_in, entry_of, history_in, state_decided}
+use Rattle.act_script.specs.History.{accepted_from, decided, entry_of, history_in, state_decided, updates_of}
 use Rattle.act_script.specs.Script.{script_segments}
 use Rattle.act_script.specs.Segments.{batches_in}
 use Rattle.act_script.specs.declared.segment.Batch.{Batch}
+use Rattle.act_script.specs.Turns.{Turn, points_after, turns_from, turns_of}
+use Rattle.act_script.specs.Turns.Turn.{Asks, Joins}
 use Rattle.act_script.specs.declared.segment.Step.{Step}
-use Rattle.act_script.specs.declared.segment.Step.TheVariants as step
+use Rattle.act_script.specs.declared.segment.Update.{Update}
+use Rattle.act_script.specs.declared.segment.Update.TheVariants as update
 
--- the start of the reply to an entry; a training has a reply of its own
-abbrev pub entry_text : Entry → List ℕ
-entry_text (entry.Add key shape) = codes "zone " ++ decimal key
-entry_text (entry.DropZone key) = codes "drop " ++ decimal key
-entry_text (entry.Replace key shape) = codes "replace " ++ decimal key
-entry_text (entry.Train cells) = codes "train"
+-- the start of the reply to an update
+abbrev pub asked_text : Update → List ℕ
+asked_text (update.Add key shape) = codes "zone " ++ decimal key
+asked_text (update.DropZone key) = codes "drop " ++ decimal key
+asked_text (update.Replace key shape) = codes "replace " ++ decimal key
+asked_text (update.Train threshold) = codes "train"
 
 -- the end of the reply: accepted, or why not
 abbrev pub verdict_text : Option Verdict → List ℕ
@@ -35,9 +39,16 @@ verdict_text (Some (verdict.Refs need)) = codes " refused refs " ++ decimal need
 verdict_text (Some (verdict.Rows need limit)) = codes " refused rows " ++ decimal need ++ codes " of " ++ decimal limit ++ codes "\n"
 verdict_text (Some verdict.NoMemory) = []
 
--- the reply to an entry that is asked for in this state
-abbrev pub reply_text : Settings → State → Entry → List ℕ
-reply_text settings state asked = entry_text asked ++ verdict_text (verdict_of settings state asked)
+-- the end of the reply to an update that asks for this entry: a training says by how many cells it lengthens the list
+abbrev pub told_text : Settings → State → Entry → List ℕ
+told_text settings state (entry.Add key shape) = verdict_text (verdict_of settings state (entry.Add key shape))
+told_text settings state (entry.DropZone key) = verdict_text (verdict_of settings state (entry.DropZone key))
+told_text settings state (entry.Replace key shape) = verdict_text (verdict_of settings state (entry.Replace key shape))
+told_text settings state (entry.Train cells) = codes " split " ++ decimal (length cells) ++ codes "\n"
+
+-- the reply to an update in this state, where a training has this sample
+abbrev pub reply_text : Settings → State → List Point → Update → List ℕ
+reply_text settings state sample asked = asked_text asked ++ told_text settings state (entry_of settings state sample asked)
 
 abbrev pub pair_text : List ℕ → Hit → List ℕ
 pair_text ids hit = decimal (slice_index ids hit.point) ++ codes "," ++ decimal hit.key ++ codes "\n"
@@ -48,17 +59,17 @@ batch_text history count batch =
     codes "batch " ++ decimal batch.number ++ codes " after " ++ decimal count ++ codes " points " ++ decimal (length batch.points) ++ codes "\n"
     ++ flat_map (pair_text batch.ids) (join batch.layers (zones_after count history) batch.points)
 
--- the replies to steps in their order, this being the state before them, where each batch takes the next count
-abbrev pub steps_text : Settings → List Entry → State → List Step → List ℕ → List ℕ
-steps_text settings history state [] counts = []
-steps_text settings history state (step.Update asked ∷ steps) counts =
-    reply_text settings state (entry_of asked) ++ steps_text settings history (decided settings state (entry_of asked)) steps counts
-steps_text settings history state (step.Batch batch ∷ steps) counts =
-    batch_text history (slice_index counts 0) batch ++ steps_text settings history state steps (drop 1 counts)
+-- the replies to turns in their order, this being the state before them, where each batch takes the next count
+abbrev pub turns_text : Settings → List Entry → State → List Turn → List ℕ → List ℕ
+turns_text settings history state [] counts = []
+turns_text settings history state (Asks sample asked ∷ turns) counts =
+    reply_text settings state sample asked ++ turns_text settings history (decided settings state (entry_of settings state sample asked)) turns counts
+turns_text settings history state (Joins batch ∷ turns) counts =
+    batch_text history (slice_index counts 0) batch ++ turns_text settings history state turns (drop 1 counts)
 
 -- the text of segments, where their batches are answered after these numbers of accepted updates
 abbrev pub segments_text : Settings → List (List Step) → List ℕ → List ℕ
-segments_text settings segments counts = steps_text settings (history_in settings segments) nothing (flat_map (λ segment. segment) segments) counts
+segments_text settings segments counts = turns_text settings (history_in settings segments) nothing (turns_from [] segments) counts
 
 -- the text of a script
 abbrev pub text_of : Settings → List ℕ → List ℕ → List ℕ
@@ -69,25 +80,27 @@ text_of settings script counts = segments_text settings (script_segments setting
 abbrev pub AreFair : ℕ → ℕ → List ℕ → Type 0
 AreFair before by_end counts = All (λ count. (before ≤ count) × (count ≤ by_end)) counts
 
--- the counts of all batches are fair, in this state after so many accepted updates
-abbrev pub IsFairFrom : Settings → State → ℕ → List (List Step) → List ℕ → Type 0
-IsFairFrom settings state before [] counts = counts ≡ []
-IsFairFrom settings state before (segment ∷ segments) counts =
-    let by_end = before + length (accepted_from settings state (entries_in segment)) in
+-- the counts of all batches are fair, in this state after so many accepted updates, where these points are there for a
+-- sample
+abbrev pub IsFairFrom : Settings → State → List Point → ℕ → List (List Step) → List ℕ → Type 0
+IsFairFrom settings state points before [] counts = counts ≡ []
+IsFairFrom settings state points before (segment ∷ segments) counts =
+    let by_end = before + updates_of (accepted_from settings state (turns_of points segment)) in
     (batches_in segment ≤ length counts) × AreFair before by_end (take (batches_in segment) counts)
-    × IsFairFrom settings (state_decided settings state (entries_in segment)) by_end segments (drop (batches_in segment) counts)
+    × IsFairFrom settings (state_decided settings state (turns_of points segment)) (points_after points segment) by_end segments (drop (batches_in segment) counts)
 
 -- one fair count for each batch of a script
 abbrev pub IsFair : Settings → List ℕ → List ℕ → Type 0
-IsFair settings script counts = IsFairFrom settings nothing 0 (script_segments settings.digits script) counts
+IsFair settings script counts = IsFairFrom settings nothing [] 0 (script_segments settings.digits script) counts
 
 -- the least counts: each batch before the updates of its own segment
-abbrev pub least_counts : Settings → State → ℕ → List (List Step) → List ℕ
-least_counts settings state before [] = []
-least_counts settings state before (segment ∷ segments) =
+abbrev pub least_counts : Settings → State → List Point → ℕ → List (List Step) → List ℕ
+least_counts settings state points before [] = []
+least_counts settings state points before (segment ∷ segments) =
     replicate (batches_in segment) before
-    ++ least_counts settings (state_decided settings state (entries_in segment)) (before + length (accepted_from settings state (entries_in segment))) segments
+    ++ least_counts settings (state_decided settings state (turns_of points segment)) (points_after points segment)
+    (before + updates_of (accepted_from settings state (turns_of points segment))) segments
 
 -- each script has fair counts
 abbrev pub LeastCountsAreFair : Type 0
-LeastCountsAreFair = (settings : Settings) (script : List ℕ) → IsFair settings script (least_counts settings nothing 0 (script_segments settings.digits script))
+LeastCountsAreFair = (settings : Settings) (script : List ℕ) → IsFair settings script (least_counts settings nothing [] 0 (script_segments settings.digits script))

@@ -13,6 +13,8 @@ pub enum LineFault {
     Key,
     /// The id of the point is no number from 0 to 2^64-1.
     PointId,
+    /// The threshold is no number from 1 to 2^32-1.
+    Threshold,
     /// A coordinate is no number.
     Number,
     /// A coordinate is out of range.

@@ -12,6 +12,8 @@ pub enum Item {
     DropZone { key: u32 },
     /// A zone that stands gets another shape.
     Replace { key: u32, shape: Shape },
+    /// Cells that are costly for the sample, with a cost of the threshold or more, are trained. The threshold is above 0.
+    Train { threshold: u32 },
     /// A point with its id.
     At { id: u64, point: Point },
     /// The points so far are a batch.

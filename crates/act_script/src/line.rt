@@ -1,6 +1,6 @@
 //! Lines as items.
 
-ghost use Rattle.std.specs.Prelude.{◌≡◌, ◌≤◌, ◌<◌, ◌^◌, ◌∷◌, Err, length, codes};
+ghost use Rattle.std.specs.Prelude.{◌≡◌, ◌≤◌, ◌<◌, ◌^◌, ◌∷◌, Err, IfOk, IfSome, length, codes};
 ghost use Rattle.std.specs.Str.{bytes_eq};
 ghost use Rattle.csv.specs.Records.{fields_of};
 ghost use Rattle.act_grid.specs.Number.{value_of};
@@ -9,7 +9,8 @@ ghost use Rattle.act_script.specs.Cutting.{IsOpen};
 ghost use Rattle.act_script.specs.Fields.{field_text};
 ghost use Rattle.act_script.specs.Records.{AreShort, split_at_commas};
 ghost use Rattle.act_script.specs.Answers.{IsAnswer};
-ghost use Rattle.act_script.specs.Items.{brief_item, coordinate, drop_item, id_of, item_of, key_of, kind_item, layers_item, point_item, record_item, replace_item, shaped, told_item, with_fields, zone_item};
+ghost use Rattle.act_script.specs.Items.{brief_item, coordinate, drop_item, id_of, item_of, key_of, kind_item, layers_item, point_item, record_item, replace_item, shaped, threshold_of, told_item, train_item, with_fields, zone_item};
+ghost use Rattle.act_script.specs.Segments.{ItemHasThreshold};
 
 use crate::fault::LineFault;
 use crate::fields::{
@@ -33,7 +34,8 @@ pub fn read_line(alloc: Global, line: &[u8], digits: u8) -> Result<Option<Item>,
     requires digits { digits ≤ 9 }
     requires short { length line.now ≤ 16777216 }
     requires one { IsOpen line.now }
-    ensures { IsAnswer result (item_of digits line.now) }
+    ensures said { IsAnswer result (item_of digits line.now) }
+    ensures threshold { IfOk result (λ item. IfSome item ItemHasThreshold) }
 {
     let line = strip_marks(line);
     if has_nothing(line) {
@@ -166,6 +168,25 @@ fn read_drop(key: &[u8]) -> Result<Item, LineFault>
     Ok(Item::DropZone { key })
 }
 
+fn read_threshold(text: &[u8]) -> Result<u32, LineFault>
+    ensures { result ≡ threshold_of text.now }
+{
+    let Some(threshold) = whole(text, u64::from(u32::MAX)) else {
+        return Err(LineFault::Threshold);
+    };
+    if threshold == 0 {
+        return Err(LineFault::Threshold);
+    }
+    Ok(threshold as u32)
+}
+
+fn read_train(text: &[u8]) -> Result<Item, LineFault>
+    ensures { result ≡ train_item text.now }
+{
+    let threshold = read_threshold(text)?;
+    Ok(Item::Train { threshold })
+}
+
 fn read_layers(text: &[u8]) -> Result<Item, LineFault>
     ensures { result ≡ layers_item text.now }
 {
@@ -220,6 +241,13 @@ fn read_brief<W: Row>(row: &W) -> Result<Item, LineFault>
     if is_text(kind, b"drop") {
         return if count == 2 {
             read_drop(row.field(1))
+        } else {
+            Err(LineFault::Fields)
+        };
+    }
+    if is_text(kind, b"train") {
+        return if count == 2 {
+            read_train(row.field(1))
         } else {
             Err(LineFault::Fields)
         };

@@ -50,6 +50,7 @@ fn spelled_item(alloc: Global, item: &Item) -> Result<String, AllocError> {
             format!(in alloc; "replace {key} {rings}")
         }
         Item::DropZone { key } => format!(in alloc; "drop {key}"),
+        Item::Train { threshold } => format!(in alloc; "train {threshold}"),
         Item::At { id, point } => format!(in alloc; "point {id} ({} {})", point.x, point.y),
         Item::Batch => String::from_str(alloc, "batch"),
         Item::Sync => String::from_str(alloc, "sync"),
@@ -93,7 +94,7 @@ fn table_of_lines(rt: HostRuntime) -> Result<(), Fail> {
             b"point,18446744073709551615,1.5,-1.5",
             "point 18446744073709551615 (2 -2)",
         ),
-        (b"train,1", "Kind"),
+        (b"train,0", "Threshold"),
         (b"Zone,1,\"POLYGON EMPTY\"", "Kind"),
     ];
     for (line, wanted) in &cases {
@@ -242,6 +243,31 @@ fn drops_and_layers(rt: HostRuntime) -> Result<(), Fail> {
         (b"layers,**", "Layers"),
         (b"layers,*", "all layers"),
         (b"batch", "batch"),
+    ];
+    for (line, wanted) in &cases {
+        assert_eq!(rt; answer_to(alloc, line)?.as_str(), *wanted);
+    }
+    Ok(())
+}
+
+#[test]
+fn trainings(rt: HostRuntime) -> Result<(), Fail> {
+    let alloc = rt.alloc();
+    let cases: [(&[u8], &str); 14] = [
+        (b"train,1", "train 1"),
+        (b"train,007", "train 7"),
+        (b"train,4294967295", "train 4294967295"),
+        (b"train,4294967296", "Threshold"),
+        (b"train,00", "Threshold"),
+        (b"train,", "Threshold"),
+        (b"train,-1", "Threshold"),
+        (b"train, 1", "Threshold"),
+        (b"train,x\"\"", "Threshold"),
+        (b"train", "Fields"),
+        (b"train,1,2", "Fields"),
+        (b"train,0,0", "Fields"),
+        (b"train,\"5\"", "train 5"),
+        (b"Train,1", "Kind"),
     ];
     for (line, wanted) in &cases {
         assert_eq!(rt; answer_to(alloc, line)?.as_str(), *wanted);

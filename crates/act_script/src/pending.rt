@@ -48,8 +48,8 @@ impl Model for Pending {
 }
 
 impl Pending {
-    ghost use Rattle.std.specs.Prelude.{◌≡◌, ◌<◌, ◌≤◌, ◌^◌, ◌-◌, false, IfOk, IfErr, OnOk, OnErr};
-    ghost use Rattle.act_script.specs.Segments.{HoldsNothing, after_segment, closed_segment, cut_batch, is_full, nothing_pending, update_vertices, with_batch, with_item, with_point, with_update};
+    ghost use Rattle.std.specs.Prelude.{◌≡◌, ◌<◌, ◌≤◌, ◌^◌, ◌-◌, false, IfOk, IfErr, IfSome, OnOk, OnErr};
+    ghost use Rattle.act_script.specs.Segments.{HasThreshold, HaveThresholds, HoldsNothing, ItemHasThreshold, after_segment, closed_segment, cut_batch, is_full, nothing_pending, update_vertices, with_batch, with_item, with_point, with_update};
 
     pub fn new(alloc: Global) -> Pending
         ensures { result ≡ nothing_pending }
@@ -144,6 +144,7 @@ impl Pending {
     fn add_update(&mut self, update: Update, vertices: u32) -> Result<(), NoMemory>
         requires few { is_full self.old ≡ false }
         requires vertices { vertices ≡ update_vertices update }
+        requires threshold { HasThreshold update }
         ensures ok { OnOk result (self.new ≡ with_update self.old update) }
         ensures err { OnErr result (HoldsNothing self.new) }
     {
@@ -166,6 +167,7 @@ impl Pending {
     pub fn take(&mut self, item: Item) -> Result<(), NoMemory>
         requires few { is_full self.old ≡ false }
         requires number { self.old.number < 2 ^ 32 }
+        requires threshold { ItemHasThreshold item }
         ensures ok { OnOk result (self.new ≡ with_item self.old item) }
         ensures err { OnErr result (HoldsNothing self.new) }
     {
@@ -183,6 +185,7 @@ impl Pending {
                 let vertices = shape.vertices();
                 self.add_update(Update::Replace { key, shape }, vertices)
             }
+            Item::Train { threshold } => self.add_update(Update::Train { threshold }, 0),
             Item::Batch => self.end_batch(),
             Item::Layers { set } => {
                 self.end_batch()?;
@@ -196,6 +199,7 @@ impl Pending {
     /// Closes the segment at hand. Nothing is given where it has no step.
     pub fn close(&mut self) -> Result<Option<Segment>, NoMemory>
         ensures given { IfOk result (λ segment. segment ≡ closed_segment self.old) }
+        ensures thresholds { IfOk result (λ segment. IfSome segment HaveThresholds) }
         ensures ok { OnOk result (self.new ≡ after_segment self.old) }
         ensures err { OnErr result (HoldsNothing self.new) }
     {

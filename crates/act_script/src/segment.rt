@@ -5,7 +5,7 @@ use act_geom::Shape;
 use act_grid::Layers;
 use std::marker::Model;
 
-/// A change of the zones.
+/// A change of the zones, or a training.
 #[derive(Debug, Drop)]
 pub enum Update {
     /// A zone comes to stand.
@@ -14,6 +14,8 @@ pub enum Update {
     DropZone { key: u32 },
     /// A zone that stands gets another shape.
     Replace { key: u32, shape: Shape },
+    /// Cells whose cost for the sample is the threshold or more are trained. The threshold is above 0.
+    Train { threshold: u32 },
 }
 
 /// Points that are joined with the zones together.

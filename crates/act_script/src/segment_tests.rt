@@ -54,6 +54,9 @@ fn push_segment(alloc: Global, text: &mut String, segment: &Segment) -> Result<(
                 Step::Update(Update::Replace { key, .. }) => {
                     text.push_str(format!(in alloc; " replace {key}")?.as_str())?
                 }
+                Step::Update(Update::Train { threshold }) => {
+                    text.push_str(format!(in alloc; " train {threshold}")?.as_str())?
+                }
                 Step::Batch(batch) => push_batch(alloc, text, batch)?,
             }
         }
@@ -140,7 +143,7 @@ fn segments_in(alloc: Global, script: &[u8], size: usize) -> Result<String, Allo
 #[test]
 fn segments(rt: HostRuntime) -> Result<(), Fail> {
     let alloc = rt.alloc();
-    let cases: [(&[u8], &str); 11] = [
+    let cases: [(&[u8], &str); 13] = [
         (b"", ""),
         (b"\n \n", ""),
         (b"sync\nsync", ""),
@@ -165,6 +168,11 @@ fn segments(rt: HostRuntime) -> Result<(), Fail> {
             b"layers,1\nsync\npoint,1,0,0\nsync\npoint,2,0,0",
             "{ batch 1 of 1 in 1 }{ batch 2 of 2 in 1 }",
         ),
+        (
+            b"point,1,0,0\ntrain,5\nbatch\ntrain,5\nsync\ntrain,7\nsync",
+            "{ train 5 batch 1 of 1 in 256 train 5 }{ train 7 }",
+        ),
+        (b"train,1\nsync\ntrain,0", "{ train 1 }Threshold"),
         (b"drop,1\nsync\ndrop,2\nnone\nsync", "{ drop 1 }Kind"),
         (b"drop,1\nsync\ndrop,2\r\n\rsync", "{ drop 1 }Fields"),
     ];
@@ -212,7 +220,7 @@ fn most_batches(rt: HostRuntime) -> Result<(), Fail> {
 fn most_updates(rt: HostRuntime) -> Result<(), Fail> {
     let alloc = rt.alloc();
     let mut script = repeated(alloc, b"drop,1\n", 4095)?;
-    script.extend_from_slice(b"point,1,0,0\ndrop,2\npoint,2,0,0\n")?;
+    script.extend_from_slice(b"point,1,0,0\ntrain,2\npoint,2,0,0\n")?;
     let wanted = "{ 4097 steps }{ batch 2 of 2 in 256 }";
     assert_eq!(rt; segments_in(alloc, &script, 4096)?.as_str(), wanted);
     Ok(())

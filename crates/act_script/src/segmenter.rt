@@ -26,8 +26,8 @@ impl Model for Segmenter {
 }
 
 impl Segmenter {
-    ghost use Rattle.std.specs.Prelude.{◌≡◌, ◌<◌, ◌≤◌, ◌+◌, ◌^◌, IfOk, OnOk, OnErr};
-    ghost use Rattle.act_script.specs.Segments.{HoldsNothing, after_segment, closed_segment, given_by, nothing_pending, pending_by};
+    ghost use Rattle.std.specs.Prelude.{◌≡◌, ◌<◌, ◌≤◌, ◌+◌, ◌^◌, IfOk, IfSome, OnOk, OnErr};
+    ghost use Rattle.act_script.specs.Segments.{HaveThresholds, HoldsNothing, ItemHasThreshold, after_segment, closed_segment, given_by, nothing_pending, pending_by};
 
     /// A segmenter before the first item.
     pub fn new(alloc: Global) -> Segmenter
@@ -41,8 +41,10 @@ impl Segmenter {
     /// Takes one more item, and gives the segment that it closes, where that has a step. Points go into
     /// buffers that grow; a batch takes them whole.
     pub fn push(&mut self, item: Item) -> Result<Option<Segment>, NoMemory>
-        requires { self.old.number < 2 ^ 32 }
+        requires number { self.old.number < 2 ^ 32 }
+        requires threshold { ItemHasThreshold item }
         ensures given { IfOk result (λ segment. segment ≡ given_by self.old item) }
+        ensures thresholds { IfOk result (λ segment. IfSome segment HaveThresholds) }
         ensures ok { OnOk result (self.new ≡ pending_by self.old item) }
         ensures number { OnOk result (self.new.number ≤ self.old.number + 1) }
         ensures err { OnErr result (HoldsNothing self.new) }
@@ -59,6 +61,7 @@ impl Segmenter {
     /// Takes the end of the script, and gives the last segment, where it has a step.
     pub fn finish(&mut self) -> Result<Option<Segment>, NoMemory>
         ensures given { IfOk result (λ segment. segment ≡ closed_segment self.old) }
+        ensures thresholds { IfOk result (λ segment. IfSome segment HaveThresholds) }
         ensures ok { OnOk result (self.new ≡ after_segment self.old) }
         ensures err { OnErr result (HoldsNothing self.new) }
     {

@@ -48,6 +48,7 @@ fn spelled_item(alloc: Global, item: &Item) -> Result<String, AllocError> {
             format!(in alloc; "replace {key}{rings}")
         }
         Item::DropZone { key } => format!(in alloc; "drop {key}"),
+        Item::Train { threshold } => format!(in alloc; "train {threshold}"),
         Item::At { id, point } => format!(in alloc; "point {id} {} {}", point.x, point.y),
         Item::Batch => String::from_str(alloc, "batch"),
         Item::Sync => String::from_str(alloc, "sync"),
