@@ -15,7 +15,7 @@ use Rattle.act_script.specs.declared.item.Item.{Item}
 use Rattle.act_script.specs.declared.segment.Step.{Step}
 use Rattle.act_join.specs.Ends.{AnswersRead, Ends, GetsEnded, GetsText, GetsTextFront}
 use Rattle.act_join.specs.Feeds.{Answered, AnsweredFront, Closes, Feeds, IsStart, IsWithin, Stops, at_start, content_from, ended_of, segments_after}
-use Rattle.act_join.specs.Held.{Held, nothing_held}
+use Rattle.act_join.specs.Kept.{Kept, nothing_kept}
 use Rattle.act_join.specs.declared.ended.Ended.{Ended}
 use Rattle.act_join.specs.declared.ended.Ended.TheVariants as ended
 use Rattle.act_join.specs.declared.progress.Progress.{Progress}
@@ -26,12 +26,12 @@ use Rattle.act_join.proofs.PutFacts.{between}
 
 -- ---- what is written is the text of the script
 
-gets_text : (settings : Settings) (script : List ℕ) (a b : Option (List ℕ)) (f g : ℕ) → Answered (nothing_held settings) (script_segments settings.digits script) a b → GetsText settings script (between a b f g)
+gets_text : (settings : Settings) (script : List ℕ) (a b : Option (List ℕ)) (f g : ℕ) → Answered (nothing_kept settings) (script_segments settings.digits script) a b → GetsText settings script (between a b f g)
 gets_text settings script a b f g answers =
     let whole = whole_answered settings (script_segments settings.digits script) answers.0 answers.1 in
     (whole.0, whole.1, rw whole.2 answers.2)
 
-gets_front : (settings : Settings) (script : List ℕ) (a b : Option (List ℕ)) (f g : ℕ) → AnsweredFront (nothing_held settings) (script_segments settings.digits script) a b → GetsTextFront settings script (between a b f g)
+gets_front : (settings : Settings) (script : List ℕ) (a b : Option (List ℕ)) (f g : ℕ) → AnsweredFront (nothing_kept settings) (script_segments settings.digits script) a b → GetsTextFront settings script (between a b f g)
 gets_front settings script a b f g front =
     let whole = whole_answered settings (script_segments settings.digits script) front.0 front.1 in
     (whole.0, whole.1, rw whole.2 front.2)
@@ -39,17 +39,17 @@ gets_front settings script a b f g front =
 -- before anything is written
 pub nothing_written : (settings : Settings) (left written : Option (List ℕ)) (f g : ℕ) → IfSome left (λ script. GetsTextFront settings script (between written written f g))
 nothing_written settings None written f g = tt
-nothing_written settings (Some script) written f g = gets_front settings script written written f g (nothing_front (nothing_held settings) (script_segments settings.digits script) written)
+nothing_written settings (Some script) written f g = gets_front settings script written written f g (nothing_front (nothing_kept settings) (script_segments settings.digits script) written)
 
 -- what a progress before the first byte sees is the whole script
 abbrev first : Settings → Progress
-first settings = record { cutter = record { number = 0; held = []; line = []; fault = None }; segmenter = nothing_pending; run = nothing_held settings }
+first settings = record { cutter = record { number = 0; held = []; line = []; fault = None }; segmenter = nothing_pending; run = nothing_kept settings }
 
 is_first : (settings : Settings) (start : Progress) → IsStart settings start → start ≡ first settings
 is_first settings start is =
     ap (λ (c : Cutting). record { cutter = c; segmenter = start.segmenter; run = start.run }) is.cutter
     ∙ ap (λ (p : Pending). record { cutter = (first settings).cutter; segmenter = p; run = start.run }) is.segmenter
-    ∙ ap (λ (h : Held). record { cutter = (first settings).cutter; segmenter = nothing_pending; run = h }) is.run
+    ∙ ap (λ (k : Kept). record { cutter = (first settings).cutter; segmenter = nothing_pending; run = k }) is.run
 
 -- ---- where reading stopped
 
@@ -95,7 +95,7 @@ first_closed (Ok done) settings now bytes (Some script) (Some more) p q a b c f 
     let segments = ap (segments_after nothing_pending) (sym says) in (
       ap Some end,
       ap (λ (content : Content). content.bad) says ∙ closes.0,
-      gets_text settings script a c f h (subst (λ (segments : List (List Step)). Answered (nothing_held settings) segments a c) segments answers),
+      gets_text settings script a c f h (subst (λ (segments : List (List Step)). Answered (nothing_kept settings) segments a c) segments answers),
     )
 first_closed (Err e) settings now bytes left rest p q a b c f g h consumed end fed later stops =
     let digits = settings.digits in
@@ -146,7 +146,7 @@ first_failed settings now bytes (Some script) (Some more) a b f g consumed none 
     let segments : segments_after nothing_pending (with_items fed.items said) ≡ script_segments digits script = ap (segments_after nothing_pending) (sym says) in
     let whole = whole_answered settings (closed_segments nothing_pending fed.items) fed.takes.answers.0 fed.takes.answers.1 in
     let got : GetsEnded settings bytes (between a b f g) = rw (read_segments settings now bytes a b fed none) (whole.0, whole.1, rw whole.2 fed.takes.answers.2) in (
-      gets_front settings script a b f g (subst (λ (segments : List (List Step)). AnsweredFront (nothing_held settings) segments a b) segments front),
+      gets_front settings script a b f g (subst (λ (segments : List (List Step)). AnsweredFront (nothing_kept settings) segments a b) segments front),
       (bytes, consumed, got),
     )
 

@@ -8,16 +8,14 @@ use Rattle.act_script.specs.Segments.{Pending, closed_segments, given_by, pendin
 use Rattle.act_script.specs.declared.fault.LineFault.{LineFault}
 use Rattle.act_script.specs.declared.fault.LineFault.TheVariants as line
 use Rattle.act_script.specs.declared.item.Item.{Item}
-use Rattle.act_join.specs.Held.{Held, after_steps}
-use Rattle.act_join.specs.Feeds.{Answered, AnsweredFront, Runs, Stops, Takes, TakesLine, line_end, pending_after, segments_after, steps_of}
+use Rattle.act_join.specs.Kept.{Kept, after_segments}
+use Rattle.act_join.specs.Feeds.{Answered, AnsweredFront, Runs, Stops, Takes, TakesLine, line_end, pending_after, segments_after}
 use Rattle.act_join.specs.declared.ended.Ended.{Ended}
 use Rattle.act_join.specs.declared.ended.Ended.TheVariants as ended
 use Rattle.act_join.specs.declared.ended.ScriptFault.TheVariants as why
 use Rattle.act_join.specs.declared.progress.Progress.{Progress}
-use Rattle.std.proofs.lemmas.Grind.{flat_map-append}
-use Rattle.act_join.proofs.AnswerFacts.{after_none, answered_more, front_longer, front_more, nothing_answered, nothing_front}
+use Rattle.act_join.proofs.AnswerFacts.{answered_more, both_after, front_longer, front_more, none_after, nothing_answered, nothing_front}
 use Rattle.act_join.proofs.PutFacts.{between}
-use Rattle.act_join.proofs.TextFacts.{after_more}
 
 -- ---- items in two parts
 
@@ -50,22 +48,21 @@ segments_more p items content = by content.bad
 -- ---- items that were taken
 
 pub takes_none : (before after : Progress) (a : Option (List ℕ)) → after.segmenter ≡ before.segmenter → after.run ≡ before.run → Takes [] before after a a
-takes_none before after a pending run = record { pending = pending; held = run ∙ sym (after_none before.run); answers = nothing_answered before.run a }
+takes_none before after a pending run = record { pending = pending; held = run ∙ sym (none_after before.run); answers = nothing_answered before.run a }
 
 pub takes_more : (xs ys : List Item) (before mid after : Progress) (a b c : Option (List ℕ)) → Takes xs before mid a b → Takes ys mid after b c → Takes (xs ++ ys) before after a c
 takes_more xs ys before mid after a b c first second =
     let one = closed_segments before.segmenter xs in
     let two = closed_segments (pending_after before.segmenter xs) ys in
     let parts : closed_segments before.segmenter (xs ++ ys) ≡ one ++ two = closed_more before.segmenter xs ys in
-    let steps : steps_of (one ++ two) ≡ steps_of one ++ steps_of two = flat_map-append (λ segment. segment) one two in
-    let there : after.run ≡ after_steps (after_steps before.run (steps_of one)) (steps_of two) =
-    second.held ∙ ap (λ (h : Held). after_steps h (steps_of (closed_segments mid.segmenter ys))) first.held
-    ∙ ap (λ (p : Pending). after_steps (after_steps before.run (steps_of one)) (steps_of (closed_segments p ys))) first.pending in
-    let rest : Answered (after_steps before.run (steps_of one)) two b c =
-    subst (λ (h : Held). Answered h two b c) first.held (subst (λ (p : Pending). Answered mid.run (closed_segments p ys) b c) first.pending second.answers) in
+    let there : after.run ≡ after_segments (after_segments before.run one) two =
+    second.held ∙ ap (λ (k : Kept). after_segments k (closed_segments mid.segmenter ys)) first.held
+    ∙ ap (λ (p : Pending). after_segments (after_segments before.run one) (closed_segments p ys)) first.pending in
+    let rest : Answered (after_segments before.run one) two b c =
+    subst (λ (k : Kept). Answered k two b c) first.held (subst (λ (p : Pending). Answered mid.run (closed_segments p ys) b c) first.pending second.answers) in
     record {
       pending = second.pending ∙ ap (λ (p : Pending). pending_after p ys) first.pending ∙ sym (pending_more before.segmenter xs ys);
-      held = there ∙ sym (after_more before.run (steps_of one) (steps_of two)) ∙ ap (after_steps before.run) (sym steps) ∙ ap (λ segments. after_steps before.run (steps_of segments)) (sym parts);
+      held = there ∙ sym (both_after before.run one two) ∙ ap (after_segments before.run) (sym parts);
       answers = rw parts (answered_more before.run one two a b c first.answers rest);
     }
 
@@ -74,8 +71,8 @@ pub stopped_front : (items : List Item) (said : Content) (before mid : Progress)
 stopped_front items said before mid a b c takes front =
     let one = closed_segments before.segmenter items in
     let two = segments_after (pending_after before.segmenter items) said in
-    let rest : AnsweredFront (after_steps before.run (steps_of one)) two b c =
-    subst (λ (held : Held). AnsweredFront held two b c) takes.held (subst (λ (p : Pending). AnsweredFront mid.run (segments_after p said) b c) takes.pending front) in
+    let rest : AnsweredFront (after_segments before.run one) two b c =
+    subst (λ (k : Kept). AnsweredFront k two b c) takes.held (subst (λ (p : Pending). AnsweredFront mid.run (segments_after p said) b c) takes.pending front) in
     rw (segments_more before.segmenter items said) (front_more before.run one two a b c takes.answers rest)
 
 pub answered_after : (items : List Item) (said : Content) (before mid : Progress) (a b c : Option (List ℕ)) → Takes items before mid a b
@@ -83,8 +80,8 @@ pub answered_after : (items : List Item) (said : Content) (before mid : Progress
 answered_after items said before mid a b c takes answers =
     let one = closed_segments before.segmenter items in
     let two = segments_after (pending_after before.segmenter items) said in
-    let rest : Answered (after_steps before.run (steps_of one)) two b c =
-    subst (λ (held : Held). Answered held two b c) takes.held (subst (λ (p : Pending). Answered mid.run (segments_after p said) b c) takes.pending answers) in
+    let rest : Answered (after_segments before.run one) two b c =
+    subst (λ (k : Kept). Answered k two b c) takes.held (subst (λ (p : Pending). Answered mid.run (segments_after p said) b c) takes.pending answers) in
     rw (segments_more before.segmenter items said) (answered_more before.run one two a b c takes.answers rest)
 
 -- what follows items that were taken stops there
@@ -137,5 +134,6 @@ line_stopped n line.PointId said before a f g says more = bad_line n line.PointI
 line_stopped n line.Number said before a f g says more = bad_line n line.Number said before a f g says more
 line_stopped n line.Range said before a f g says more = bad_line n line.Range said before a f g says more
 line_stopped n (line.Wkt kind place) said before a f g says more = bad_line n (line.Wkt kind place) said before a f g says more
+line_stopped n line.Threshold said before a f g says more = bad_line n line.Threshold said before a f g says more
 line_stopped n line.Layers said before a f g says more = bad_line n line.Layers said before a f g says more
 line_stopped n line.NoMemory said before a f g says more = nothing_front before.run (segments_after before.segmenter (said_then n said more)) a

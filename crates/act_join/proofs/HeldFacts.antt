@@ -1,52 +1,25 @@
--- Steps that are done in order have the text of the definitions, with fair counts.
+-- Turns that are done in order have the text of the definitions, with fair counts.
 use Rattle.std.proofs.Common.{◌≡◌, ℕ, suc, ◌+◌, ◌≤◌, List, [], ◌∷◌, ◌++◌, Bool, true, false, filter, take, length, refl, arith, ap, sym, ◌∙◌, append_assoc, append-nil, length-append}
 use lib.Seq.{take-append_seam}
 use Rattle.std.specs.List.{AllByRecursion}
-use Rattle.std.specs.Prelude.{is_none, if◌then◌else◌}
+use Rattle.std.specs.Prelude.{if◌then◌else◌}
 use Rattle.std.proofs.lemmas.List.Elements.{All-from_recursion}
 use Rattle.std.proofs.lemmas.List.Sums.{sum_by-cons}
+use Rattle.act_grid.specs.declared.Point.{Point}
 use Rattle.act_grid.specs.declared.Settings.{Settings}
 use Rattle.act_super.specs.declared.entry.State.{State}
 use Rattle.act_super.specs.declared.entry.Entry.{Entry}
 use Rattle.act_super.specs.declared.entry.Entry.TheVariants as entry
-use Rattle.act_super.specs.States.{after, nothing, verdict_of}
+use Rattle.act_super.specs.States.{after, nothing}
 use Rattle.act_super.specs.Histories.{is_update, state_from, state_of, zones_after, zones_of}
 use Rattle.act_super.proofs.HistoryFacts.{state_has_zones, training_changes_no_zone}
-use Rattle.act_script.specs.Segments.{batches_in, is_batch}
-use Rattle.act_script.specs.declared.segment.Step.{Step}
-use Rattle.act_script.specs.declared.segment.Step.TheVariants as step
 use Rattle.act_script.specs.declared.segment.Update.{Update}
-use Rattle.act_script.specs.declared.segment.Update.TheVariants as update
-use Rattle.act_script.specs.History.{entry_of}
+use Rattle.act_script.specs.Turns.{Turn}
+use Rattle.act_script.specs.Turns.Turn.{Asks, Joins}
+use Rattle.act_script.specs.History.{entry_of, is_made, made_by, updates_of}
 use Rattle.act_join.specs.Replies.{answer_text}
-use Rattle.act_script.specs.Text.{batch_text, reply_text, steps_text}
-use Rattle.act_join.specs.Held.{Held, IsReplyTo, LeadsTo, accepted_in, after_step, after_steps, after_update, held_from, own_counts, own_text}
-
--- what is held after a step, and after those behind it
-one_more : {A : Type 0} (b : Bool) (n : ℕ) (x : A) (xs : List A) → (if b then n + 1 else n) + length xs ≡ n + length ((if b then x ∷ [] else []) ++ xs)
-one_more true n x xs = omega arith
-one_more false n x xs = refl
-
-pub steps_step : (held : Held) (first : Step) (steps : List Step) → after_steps (after_step held first) steps ≡ after_steps held (first ∷ steps)
-steps_step held (step.Batch batch) steps = refl
-steps_step held (step.Update asked) steps =
-    ap (λ n. record (after_steps (after_update held asked) steps) { updates = n })
-    (one_more (is_none (verdict_of held.settings held.state (entry_of asked))) held.updates (entry_of asked) (accepted_in (after_update held asked) steps))
-
-pub held_is : (held : Held) (steps : List Step) → held_from held steps ≡ after_steps held steps
-held_is held [] = ap (λ n. record held { updates = n }) (omega arith)
-held_is held (first ∷ steps) = held_is (after_step held first) steps ∙ steps_step held first steps
-
--- the state after more entries
-pub state_more : (settings : Settings) (state : State) (xs ys : List Entry) → state_from settings state (xs ++ ys) ≡ state_from settings (state_from settings state xs) ys
-state_more settings state [] ys = refl
-state_more settings state (x ∷ xs) ys = state_more settings (after settings state x) xs ys
-
--- an update that is asked for is an update of the history
-pub asks_update : (asked : Update) → is_update (entry_of asked) ≡ true
-asks_update (update.Add key shape) = refl
-asks_update (update.DropZone key) = refl
-asks_update (update.Replace key shape) = refl
+use Rattle.act_script.specs.Text.{batch_text, reply_text, turns_text}
+use Rattle.act_join.specs.Held.{Held, IsReplyTo, LeadsTo, accepted_in, after_asked, after_turn, after_turns, held_from, is_join, joins_in, own_counts, own_text}
 
 -- the updates of two parts
 updates_more : (xs ys : List Entry) → filter is_update (xs ++ ys) ≡ filter is_update xs ++ filter is_update ys
@@ -56,15 +29,43 @@ updates_more (entry.DropZone key ∷ xs) ys = ap (λ es. entry.DropZone key ∷ 
 updates_more (entry.Replace key shape ∷ xs) ys = ap (λ es. entry.Replace key shape ∷ es) (updates_more xs ys)
 updates_more (entry.Train cells ∷ xs) ys = updates_more xs ys
 
--- a history goes on with an update where it is accepted
-pub leads_if : (b : Bool) (settings : Settings) (state : State) (n : ℕ) (asked : Entry) (before : List Entry) → is_update asked ≡ true → state_of settings before ≡ state → length (filter is_update before) ≡ n
-    → (state_of settings (before ++ (if b then asked ∷ [] else [])) ≡ (if b then after settings state asked else state)) × (length (filter is_update (before ++ (if b then asked ∷ [] else []))) ≡ (if b then n + 1 else n))
-leads_if true settings state n asked before is at many =
-    let one : filter is_update (asked ∷ []) ≡ asked ∷ [] = rw is refl in (
-      state_more settings nothing before (asked ∷ []) ∙ ap (λ s. after settings s asked) at,
-      ap length (updates_more before (asked ∷ []) ∙ ap (λ es. filter is_update before ++ es) one) ∙ length-append (filter is_update before) (asked ∷ []) ∙ ap (λ k. k + 1) many,
-    )
-leads_if false settings state n asked before is at many = (rw (append-nil before) at, rw (append-nil before) many)
+updates_add : (xs ys : List Entry) → updates_of (xs ++ ys) ≡ updates_of xs + updates_of ys
+updates_add xs ys = ap length (updates_more xs ys) ∙ length-append (filter is_update xs) (filter is_update ys)
+
+-- what is held after a turn, and after those behind it
+counted : (n : ℕ) (xs ys : List Entry) → (n + updates_of xs) + updates_of ys ≡ n + updates_of (xs ++ ys)
+counted n xs ys = let both : updates_of (xs ++ ys) ≡ updates_of xs + updates_of ys = updates_add xs ys in omega (arith, both)
+
+pub turns_step : (held : Held) (first : Turn) (turns : List Turn) → after_turns (after_turn held first) turns ≡ after_turns held (first ∷ turns)
+turns_step held (Joins batch) turns = refl
+turns_step held (Asks sample asked) turns =
+    ap (λ n. record (after_turns (after_asked held sample asked) turns) { updates = n })
+    (counted held.updates (made_by held.settings held.state (Asks sample asked)) (accepted_in (after_asked held sample asked) turns))
+
+pub held_is : (held : Held) (turns : List Turn) → held_from held turns ≡ after_turns held turns
+held_is held [] = let none : held.updates ≡ held.updates + 0 = omega arith in ap (λ n. record held { updates = n }) none
+held_is held (first ∷ turns) = held_is (after_turn held first) turns ∙ turns_step held first turns
+
+-- the state after more entries
+state_more : (settings : Settings) (state : State) (xs ys : List Entry) → state_from settings state (xs ++ ys) ≡ state_from settings (state_from settings state xs) ys
+state_more settings state [] ys = refl
+state_more settings state (x ∷ xs) ys = state_more settings (after settings state x) xs ys
+
+-- a history goes on with an update where it is made
+state_on : (b : Bool) (settings : Settings) (state : State) (asked : Entry) (before : List Entry) → state_of settings before ≡ state
+    → state_of settings (before ++ (if b then asked ∷ [] else [])) ≡ (if b then after settings state asked else state)
+state_on true settings state asked before at = state_more settings nothing before (asked ∷ []) ∙ ap (λ s. after settings s asked) at
+state_on false settings state asked before at = rw (append-nil before) at
+
+pub leads_on : (held : Held) (sample : List Point) (asked : Update) (before : List Entry) → LeadsTo held before
+    → LeadsTo (after_asked held sample asked) (before ++ made_by held.settings held.state (Asks sample asked))
+leads_on held sample asked before leads =
+    let made = made_by held.settings held.state (Asks sample asked) in
+    let e = entry_of held.settings held.state sample asked in
+    record {
+      state = state_on (is_made held.settings held.state e) held.settings held.state e before leads.state;
+      updates = updates_add before made ∙ ap (λ n. n + updates_of made) leads.updates;
+    }
 
 -- the zones after as many updates as lead here
 zones_here : (held : Held) (before rest history : List Entry) → LeadsTo held before → history ≡ before ++ rest → zones_after held.updates history ≡ held.state.zones
@@ -75,52 +76,47 @@ zones_here held before rest history leads same =
     ap (take held.updates) parts ∙ ap (λ n. take n (front ++ filter is_update rest)) (sym leads.updates) ∙ take-append_seam front (filter is_update rest) in
     ap zones_of seam ∙ sym (training_changes_no_zone before) ∙ sym (state_has_zones held.settings before) ∙ ap (λ s. s.zones) leads.state
 
--- the text of the steps in such a history
-pub own_is : (held : Held) (steps : List Step) (before later history : List Entry) → LeadsTo held before → history ≡ before ++ (accepted_in held steps ++ later)
-    → own_text held steps ≡ steps_text held.settings history held.state steps (own_counts held steps)
+-- the text of the turns in such a history
+own_is : (held : Held) (turns : List Turn) (before later history : List Entry) → LeadsTo held before → history ≡ before ++ (accepted_in held turns ++ later)
+    → own_text held turns ≡ turns_text held.settings history held.state turns (own_counts held turns)
 own_is held [] before later history leads same = refl
-own_is held (step.Update asked ∷ steps) before later history leads same =
-    let b = is_none (verdict_of held.settings held.state (entry_of asked)) in
-    let rest = accepted_in (after_update held asked) steps in
-    let more : List Entry = if b then entry_of asked ∷ [] else [] in
-    let on = leads_if b held.settings held.state held.updates (entry_of asked) before (asks_update asked) leads.state leads.updates in
-    ap (λ text. reply_text held.settings held.state (entry_of asked) ++ text)
-    (own_is (after_update held asked) steps (before ++ more) later history (record { state = on.0; updates = on.1 })
-    (same ∙ ap (λ xs. before ++ xs) (append_assoc more rest later) ∙ sym (append_assoc before more (rest ++ later))))
-own_is held (step.Batch batch ∷ steps) before later history leads same =
-    let zones : zones_after held.updates history ≡ held.state.zones = zones_here held before (accepted_in held steps ++ later) history leads same in
-    ap (λ zs. answer_text held.updates zs batch ++ own_text held steps) (sym zones)
-    ∙ ap (λ text. batch_text history held.updates batch ++ text) (own_is held steps before later history leads same)
+own_is held (Asks sample asked ∷ turns) before later history leads same =
+    let made = made_by held.settings held.state (Asks sample asked) in
+    let next = after_asked held sample asked in
+    let rest = accepted_in next turns in
+    ap (λ text. reply_text held.settings held.state sample asked ++ text)
+    (own_is next turns (before ++ made) later history (leads_on held sample asked before leads)
+    (same ∙ ap (λ xs. before ++ xs) (append_assoc made rest later) ∙ sym (append_assoc before made (rest ++ later))))
+own_is held (Joins batch ∷ turns) before later history leads same =
+    let zones : zones_after held.updates history ≡ held.state.zones = zones_here held before (accepted_in held turns ++ later) history leads same in
+    ap (λ zs. answer_text held.updates zs batch ++ own_text held turns) (sym zones)
+    ∙ ap (λ text. batch_text history held.updates batch ++ text) (own_is held turns before later history leads same)
 
 -- one count for each batch
-counts_each : (held : Held) (steps : List Step) → length (own_counts held steps) ≡ batches_in steps
+counts_each : (held : Held) (turns : List Turn) → length (own_counts held turns) ≡ joins_in turns
 counts_each held [] = refl
-counts_each held (step.Update asked ∷ steps) = counts_each (after_update held asked) steps
-counts_each held (step.Batch batch ∷ steps) =
-    let one : suc (batches_in steps) ≡ 1 + batches_in steps = omega arith in
-    ap suc (counts_each held steps) ∙ one ∙ sym (sum_by-cons (λ s. if is_batch s then 1 else 0) (step.Batch batch) steps)
-
-grown : (b : Bool) (n : ℕ) → n ≤ (if b then n + 1 else n)
-grown true n = omega arith
-grown false n = omega arith
+counts_each held (Asks sample asked ∷ turns) = counts_each (after_asked held sample asked) turns
+counts_each held (Joins batch ∷ turns) =
+    let one : suc (joins_in turns) ≡ 1 + joins_in turns = omega arith in
+    ap suc (counts_each held turns) ∙ one ∙ sym (sum_by-cons (λ t. if is_join t then 1 else 0) (Joins batch) turns)
 
 -- the counts never fall
-grows : (held : Held) (first : Step) → held.updates ≤ (after_step held first).updates
-grows held (step.Batch batch) = omega arith
-grows held (step.Update asked) = grown (is_none (verdict_of held.settings held.state (entry_of asked))) held.updates
+grows : (held : Held) (first : Turn) → held.updates ≤ (after_turn held first).updates
+grows held (Joins batch) = omega arith
+grows held (Asks sample asked) = omega arith
 
-counts_fair : (held : Held) (steps : List Step) (low high : ℕ) → low ≤ held.updates → (after_steps held steps).updates ≤ high → AllByRecursion (λ count. (low ≤ count) × (count ≤ high)) (own_counts held steps)
+counts_fair : (held : Held) (turns : List Turn) (low high : ℕ) → low ≤ held.updates → (after_turns held turns).updates ≤ high → AllByRecursion (λ count. (low ≤ count) × (count ≤ high)) (own_counts held turns)
 counts_fair held [] low high below above = tt
-counts_fair held (step.Update asked ∷ steps) low high below above =
-    let more = grows held (step.Update asked) in
-    let end = ap (λ h. h.updates) (steps_step held (step.Update asked) steps) in
-    counts_fair (after_update held asked) steps low high (omega (arith, below, more)) (omega (arith, end, above))
-counts_fair held (step.Batch batch ∷ steps) low high below above =
-    ((below, omega (arith, above)), counts_fair held steps low high below above)
+counts_fair held (Asks sample asked ∷ turns) low high below above =
+    let more = grows held (Asks sample asked) in
+    let end = ap (λ h. h.updates) (turns_step held (Asks sample asked) turns) in
+    counts_fair (after_asked held sample asked) turns low high (omega (arith, below, more)) (omega (arith, end, above))
+counts_fair held (Joins batch ∷ turns) low high below above =
+    ((below, omega (arith, above)), counts_fair held turns low high below above)
 
-pub own_reply : (held : Held) (steps : List Step) → IsReplyTo held steps (own_text held steps)
-own_reply held steps = record {
-  counts = own_counts held steps;
-  fair = record { one_each = counts_each held steps; fair = All-from_recursion _ _ (counts_fair held steps held.updates (after_steps held steps).updates (omega arith) (omega arith)) };
-  is = λ before later leads. own_is held steps before later _ leads refl;
+pub own_reply : (held : Held) (turns : List Turn) → IsReplyTo held turns (own_text held turns)
+own_reply held turns = record {
+  counts = own_counts held turns;
+  fair = record { one_each = counts_each held turns; fair = All-from_recursion _ _ (counts_fair held turns held.updates (after_turns held turns).updates (omega arith) (omega arith)) };
+  is = λ before later leads. own_is held turns before later _ leads refl;
 }

@@ -2,6 +2,7 @@ pub mod DecideFacts
 pub mod PutFacts
 pub mod HitFacts
 pub mod HeldFacts
+pub mod SampleFacts
 pub mod ReplyFacts
 pub mod TextFacts
 pub mod AnswerFacts

@@ -15,7 +15,7 @@ use Rattle.act_script.specs.declared.cutter.CutFault.TheVariants as cut
 use Rattle.act_script.specs.declared.cutter.TheConstants.{MOST_LINES}
 use Rattle.act_script.specs.declared.item.Item.{Item}
 use Rattle.act_script.specs.declared.segment.Step.{Step}
-use Rattle.act_join.specs.Held.{Held}
+use Rattle.act_join.specs.Kept.{Kept}
 use Rattle.act_join.specs.Feeds.{Answered, AreLines, Closes, Feeds, Runs, Stops, Takes, TakesLast, TakesLine, at_start, content_from, cut_end, segments_after}
 use Rattle.act_join.specs.declared.ended.Ended.{Ended}
 use Rattle.act_join.specs.declared.ended.Ended.TheVariants as ended
@@ -191,19 +191,19 @@ pub none_taken : (digits : ℕ) (before after : Progress) (a : Option (List ℕ)
 none_taken digits before after a lines pending run =
     ([], ap (λ (c : Cut). lines_content digits (before.cutter.number + 1) c.lines c.fault) lines, takes_none before after a pending run)
 
-close_stopped : (e : Ended) (before : Progress) (new : Held) (out : Stream) → Runs before.run (option_to_list (closed_segment before.segmenter)) out new (Err e) → Stops no_more before out e
+close_stopped : (e : Ended) (before : Progress) (new : Kept) (out : Stream) → Runs before.run (option_to_list (closed_segment before.segmenter)) out new (Err e) → Stops no_more before out e
 close_stopped ended.WriteFault before new out h = h
 close_stopped ended.NoMemory before new out h = h
 close_stopped ended.Done before new out h = absurd h
 close_stopped ended.ReadFault before new out h = absurd h
 close_stopped (ended.BadLine n fault) before new out h = absurd h
 
-pub closed : (r : Result (Unit {0}) Ended) (digits : ℕ) (before mid : Progress) (new : Held) (a b c : Option (List ℕ)) (f g h : ℕ) → f ≤ g
+pub closed : (r : Result (Unit {0}) Ended) (digits : ℕ) (before mid : Progress) (new : Kept) (a b c : Option (List ℕ)) (f g h : ℕ) → f ≤ g
     → ((items : List Item) × (content_from digits before.cutter [] ≡ record { items = items; bad = None }) × Takes items before mid a b)
     → Runs mid.run (option_to_list (closed_segment mid.segmenter)) (between b c g h) new r → Closes digits before (between a c f h) r
 closed (Ok done) digits before mid new a b c f g h later t runs =
     let says : content_from digits before.cutter [] ≡ with_items t.0 no_more = t.1 ∙ ap (λ (items : List Item). record { items = items; bad = None }) (sym (append-nil t.0)) in
-    let rest = subst (λ (held : Held). Answered held (option_to_list (closed_segment mid.segmenter)) b c) t.2.held runs.1 in
+    let rest = subst (λ (k : Kept). Answered k (option_to_list (closed_segment mid.segmenter)) b c) t.2.held runs.1 in
     let whole = answered_more before.run (closed_segments before.segmenter t.0) (option_to_list (closed_segment mid.segmenter)) a b c t.2.answers rest in
     let parts : segments_after before.segmenter (content_from digits before.cutter []) ≡ closed_segments before.segmenter t.0 ++ option_to_list (closed_segment mid.segmenter) =
     ap (segments_after before.segmenter) says ∙ segments_more before.segmenter t.0 no_more

@@ -32,7 +32,7 @@ GetsTextFront settings script out = (counts : List ℕ) × IsFair settings scrip
 -- it got exactly the text of the segments that are closed by the lines of these bytes that end with a line feed
 abbrev pub GetsEnded : Settings → List ℕ → Stream → Type 0
 GetsEnded settings bytes out =
-    (counts : List ℕ) × IsFairFrom settings nothing 0 (ended_segments settings.digits bytes) counts
+    (counts : List ℕ) × IsFairFrom settings nothing [] 0 (ended_segments settings.digits bytes) counts
     × Gets out (segments_text settings (ended_segments settings.digits bytes) counts)
 
 -- a part of the script was read, and the segments closed in it were answered

@@ -1,7 +1,6 @@
 -- What reading on does, whatever bytes come after it.
 use Rattle.std.specs.Prelude.{◌≡◌, ◌≤◌, ◌+◌, ◌++◌, ℕ, List, [], ◌∷◌, Option, Some, None, Result, Ok, Err, length, min, take}
 use Rattle.std.specs.Option.{option_map_or}
-use Rattle.std.specs.List.{flat_map}
 use Rattle.std.specs.Io.KnownBytes.{Appends, Consumes}
 use Rattle.act_grid.specs.declared.Settings.{Settings}
 use Rattle.act_io.specs.Bytes.{AppendsFront}
@@ -9,8 +8,9 @@ use Rattle.act_io.specs.Streams.{Stream, HasFailed}
 use Rattle.act_script.specs.Answers.{Said}
 use Rattle.act_script.specs.Cutting.{Cutting, IsInLimits, to_come}
 use Rattle.act_script.specs.Script.{Content, ended_part, lines_content, said_then, with_items}
-use Rattle.act_script.specs.Segments.{Pending, batches_in, closed_segments, nothing_pending, pending_by, segments_from}
+use Rattle.act_script.specs.Segments.{Pending, closed_segments, nothing_pending, pending_by, segments_from}
 use Rattle.act_script.specs.Text.{IsFairFrom}
+use Rattle.act_script.specs.Turns.{turns_from}
 use Rattle.act_script.specs.declared.cutter.CutFault.{CutFault}
 use Rattle.act_script.specs.declared.cutter.CutFault.TheVariants as cut
 use Rattle.act_script.specs.declared.cutter.TheConstants.{MOST_LINES}
@@ -18,7 +18,8 @@ use Rattle.act_script.specs.declared.fault.LineFault.{LineFault}
 use Rattle.act_script.specs.declared.fault.LineFault.TheVariants as line
 use Rattle.act_script.specs.declared.item.Item.{Item}
 use Rattle.act_script.specs.declared.segment.Step.{Step}
-use Rattle.act_join.specs.Held.{Held, IsTextFor, after_steps, nothing_held}
+use Rattle.act_join.specs.Held.{IsTextFor, joins_in}
+use Rattle.act_join.specs.Kept.{Kept, after_segments, nothing_kept}
 use Rattle.act_join.specs.Ends.{bad_of}
 use Rattle.act_join.specs.declared.ended.ScriptFault.TheVariants as why
 use Rattle.act_join.specs.declared.ended.Ended.{Ended}
@@ -27,31 +28,28 @@ use Rattle.act_join.specs.declared.progress.Progress.{Progress}
 
 -- ---- segments that are run one after another
 
-abbrev pub steps_of : List (List Step) → List Step
-steps_of segments = flat_map (λ segment. segment) segments
-
 -- a text of segments, with fair counts, in each history that leads here
-pub record IsAnswer (held : Held) (segments : List (List Step)) (text : List ℕ) : Type 0 where
+pub record IsAnswer (kept : Kept) (segments : List (List Step)) (text : List ℕ) : Type 0 where
   pub counts : List ℕ
-  pub each : length counts ≡ batches_in (steps_of segments)
-  pub fair : IsFairFrom held.settings held.state held.updates segments counts
-  pub is : IsTextFor held (steps_of segments) counts text
+  pub each : length counts ≡ joins_in (turns_from kept.points segments)
+  pub fair : IsFairFrom kept.held.settings kept.held.state kept.points kept.held.updates segments counts
+  pub is : IsTextFor kept.held (turns_from kept.points segments) counts text
 
 -- known bytes grew by such a text, and by a front of one
-abbrev pub Answered : Held → List (List Step) → Option (List ℕ) → Option (List ℕ) → Type 0
-Answered held segments old new = (text : List ℕ) × IsAnswer held segments text × Appends old new text
+abbrev pub Answered : Kept → List (List Step) → Option (List ℕ) → Option (List ℕ) → Type 0
+Answered kept segments old new = (text : List ℕ) × IsAnswer kept segments text × Appends old new text
 
-abbrev pub AnsweredFront : Held → List (List Step) → Option (List ℕ) → Option (List ℕ) → Type 0
-AnsweredFront held segments old new = (text : List ℕ) × IsAnswer held segments text × AppendsFront old new text
+abbrev pub AnsweredFront : Kept → List (List Step) → Option (List ℕ) → Option (List ℕ) → Type 0
+AnsweredFront kept segments old new = (text : List ℕ) × IsAnswer kept segments text × AppendsFront old new text
 
 -- segments were run, or running stopped so
-abbrev pub Runs : Held → List (List Step) → Stream → Held → Result (Unit {0}) Ended → Type 0
-Runs held segments out new (Ok done) = (new ≡ after_steps held (steps_of segments)) × Answered held segments out.old out.new
-Runs held segments out new (Err ended.WriteFault) = HasFailed out × AnsweredFront held segments out.old out.new
-Runs held segments out new (Err ended.NoMemory) = AnsweredFront held segments out.old out.new
-Runs held segments out new (Err ended.Done) = ⊥
-Runs held segments out new (Err ended.ReadFault) = ⊥
-Runs held segments out new (Err (ended.BadLine n fault)) = ⊥
+abbrev pub Runs : Kept → List (List Step) → Stream → Kept → Result (Unit {0}) Ended → Type 0
+Runs kept segments out new (Ok done) = (new ≡ after_segments kept segments) × Answered kept segments out.old out.new
+Runs kept segments out new (Err ended.WriteFault) = HasFailed out × AnsweredFront kept segments out.old out.new
+Runs kept segments out new (Err ended.NoMemory) = AnsweredFront kept segments out.old out.new
+Runs kept segments out new (Err ended.Done) = ⊥
+Runs kept segments out new (Err ended.ReadFault) = ⊥
+Runs kept segments out new (Err (ended.BadLine n fault)) = ⊥
 
 -- ---- items that are taken one after another
 
@@ -67,7 +65,7 @@ segments_after p content = option_map_or (λ bad. closed_segments p content.item
 -- items were taken, and the segments that they close were run
 pub record Takes (items : List Item) (before after : Progress) (old new : Option (List ℕ)) : Type 0 where
   pub pending : after.segmenter ≡ pending_after before.segmenter items
-  pub held : after.run ≡ after_steps before.run (steps_of (closed_segments before.segmenter items))
+  pub held : after.run ≡ after_segments before.run (closed_segments before.segmenter items)
   pub answers : Answered before.run (closed_segments before.segmenter items) old new
 
 -- reading stopped so, where this is what all lines from here on say
@@ -148,7 +146,7 @@ Closes digits before out (Err e) = Stops (content_from digits before.cutter []) 
 pub record IsStart (settings : Settings) (p : Progress) : Type 0 where
   pub cutter : p.cutter ≡ record { number = 0; held = []; line = []; fault = None }
   pub segmenter : p.segmenter ≡ nothing_pending
-  pub run : p.run ≡ nothing_held settings
+  pub run : p.run ≡ nothing_kept settings
 
 -- each batch lies in lines that have ended, and the line at hand keeps to its limits
 pub record IsWithin (p : Progress) : Type 0 where

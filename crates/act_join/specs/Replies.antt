@@ -1,4 +1,4 @@
--- The parts of a reply to a batch.
+-- The parts of a reply.
 use Rattle.std.specs.Prelude.{◌++◌, ◌&&◌, ℕ, List, [], codes, decimal, length, if◌then◌else◌}
 use Rattle.std.specs.List.{flat_map}
 use Rattle.act_grid.specs.declared.Layers.{Layers}
@@ -8,8 +8,15 @@ use Rattle.act_geom.specs.Inside.{is_inside}
 use Rattle.act_super.specs.declared.entry.Zone.{Zone}
 use Rattle.act_super.specs.Joins.{Hit, join}
 use Rattle.act_super.specs.States.{zone_key_at, zone_shape_at}
-use Rattle.act_script.specs.Text.{pair_text}
+use Rattle.act_script.specs.Text.{pair_text, verdict_text}
 use Rattle.act_script.specs.declared.segment.Batch.{Batch}
+use Rattle.act_join.specs.declared.told.Told.{Told}
+use Rattle.act_join.specs.declared.told.Told.TheVariants as told
+
+-- the end of the reply to an update that is told so
+abbrev pub end_text : Told → List ℕ
+end_text (told.Verdict why) = verdict_text why
+end_text (told.Split cells) = codes " split " ++ decimal cells ++ codes "\n"
 
 -- the line of a pair
 abbrev pub key_text : ℕ → ℕ → List ℕ

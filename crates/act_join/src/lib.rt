@@ -23,6 +23,7 @@ mod put;
 mod run;
 #[cfg(test)]
 mod tests;
+mod told;
 mod words;
 
 pub use driver::engine;

@@ -1,11 +1,11 @@
 //! A run of a script between two pieces of its bytes.
 
-ghost use Rattle.std.specs.Prelude.{◌≡◌, ◌≤◌, ◌<◌, ◌+◌, ◌^◌, ℕ, drop, length, IfOk, OnOk, Ok, Some};
+ghost use Rattle.std.specs.Prelude.{◌≡◌, ◌≤◌, ◌<◌, ◌+◌, ◌^◌, ℕ, drop, length, IfOk, IfSome, OnOk, Ok, Some};
 ghost use Rattle.std.specs.Option.{option_to_list};
 ghost use Rattle.act_io.specs.Streams.{stream};
 ghost use Rattle.act_script.specs.Cutting.{turns};
 ghost use Rattle.act_script.specs.Items.{item_of};
-ghost use Rattle.act_script.specs.Segments.{closed_segment};
+ghost use Rattle.act_script.specs.Segments.{HaveThresholds, ItemHasThreshold, closed_segment};
 ghost use Rattle.act_join.specs.Feeds.{Closes, FeedsAll, FeedsPart, IsStart, IsWithin, Runs, TakesLast, TakesLine, cut_end, line_end};
 
 use crate::ended::{Ended, ScriptFault};
@@ -59,6 +59,7 @@ fn run_given<T: Threads + Sync, K: Sink, G: Gate>(
     out: &mut K,
     gate: &G,
 ) -> Result<(), Ended>
+    requires { IfSome given HaveThresholds }
     ensures runs { Runs run.old (option_to_list given) (stream K.written K.faults out.old out.new) run.new result }
     ensures later { OnOk result (K.faults out.old ≤ K.faults out.new) }
 {
@@ -100,7 +101,8 @@ impl Progress {
         out: &mut K,
         gate: &G,
     ) -> Result<(), Ended>
-        requires { self.old.segmenter.number < 2 ^ 32 }
+        requires number { self.old.segmenter.number < 2 ^ 32 }
+        requires threshold { ItemHasThreshold item }
         ensures cutter { self.new.cutter ≡ self.old.cutter }
         ensures number { OnOk result (self.new.segmenter.number ≤ self.old.segmenter.number + 1) }
         ensures takes { (n : ℕ) → TakesLine n (Ok (Some item)) self.old self.new (stream K.written K.faults out.old out.new) result }

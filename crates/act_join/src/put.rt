@@ -1,18 +1,20 @@
 //! Replies that go through the buffer to the output.
 
-ghost use Rattle.std.specs.Prelude.{◌≡◌, ◌<◌, ◌≤◌, ◌++◌, [], slice_index, length, OnOk};
+ghost use Rattle.std.specs.Prelude.{◌≡◌, ◌<◌, ◌≤◌, ◌++◌, [], slice_index, length, take, OnOk};
 ghost use Rattle.act_io.specs.Streams.{stream};
 ghost use Rattle.act_super.specs.Joins.{join, zones_at};
-ghost use Rattle.act_join.specs.Held.{Answers, after_step, after_steps, after_update, held_from, own_text, step_text};
+ghost use Rattle.act_join.specs.Held.{Answers, own_text, turn_text};
+ghost use Rattle.act_join.specs.Kept.{after_segment, after_step, after_update, deciding_from, kept_of, opened};
 ghost use Rattle.act_join.specs.Replies.{answer_text, key_text, pairs_text, hits_text, zone_text};
+ghost use Rattle.act_script.specs.Segments.{HasThreshold, HaveThresholds, StepHasThreshold};
 ghost use Rattle.act_script.specs.Text.{reply_text};
-ghost use Rattle.act_script.specs.History.{entry_of};
+ghost use Rattle.act_script.specs.Turns.{most_sampled, turn_of, turns_of};
 ghost use Rattle.act_join.specs.Puts.{Puts};
 
 use crate::decider::Decider;
 use crate::fault::SegmentFault;
-use crate::words::{push_asked, push_head, push_pair, push_verdict};
-use act_grid::{Layers, Point};
+use crate::words::{push_asked, push_head, push_pair, push_told};
+use act_grid::{Layers, NoMemory, Point};
 use act_io::{Sink, put_all};
 use act_script::{Batch, Step, Update};
 use act_super::Super;
@@ -116,13 +118,13 @@ fn put_pairs<K: Sink>(
 }
 
 /// The reply to a batch that is answered over the zones that stand.
-fn put_batch<K: Sink>(
+fn put_answer<K: Sink>(
     out: &mut K,
     text: &mut Vec<u8>,
     decider: &Decider,
     batch: &Batch,
 ) -> Result<(), SegmentFault>
-    ensures { Puts (stream K.written K.faults out.old out.new) text.old.items text.new.items (answer_text decider.now.updates decider.now.state.zones batch.now) result }
+    ensures { Puts (stream K.written K.faults out.old out.new) text.old.items text.new.items (answer_text decider.now.held.updates decider.now.held.state.zones batch.now) result }
 {
     if push_head(text, batch, decider.updates()).is_err() {
         return Err(SegmentFault::NoMemory);
@@ -137,6 +139,22 @@ fn put_batch<K: Sink>(
     )
 }
 
+/// Keeps the points of a batch for later samples, and puts its reply.
+fn put_batch<K: Sink>(
+    out: &mut K,
+    text: &mut Vec<u8>,
+    decider: &mut Decider,
+    batch: &Batch,
+) -> Result<(), SegmentFault>
+    ensures put { Puts (stream K.written K.faults out.old out.new) text.old.items text.new.items (answer_text decider.old.held.updates decider.old.held.state.zones batch.now) result }
+    ensures ok { OnOk result (decider.new ≡ record decider.old { coming = take most_sampled (decider.old.coming ++ batch.now.points) }) }
+{
+    match decider.gather(batch.points.as_slice()) {
+        Ok(()) => put_answer(out, text, decider, batch),
+        Err(NoMemory) => Err(SegmentFault::NoMemory),
+    }
+}
+
 /// Decides an update, and puts its reply.
 fn put_update<K: Sink>(
     out: &mut K,
@@ -144,16 +162,17 @@ fn put_update<K: Sink>(
     decider: &mut Decider,
     update: Update,
 ) -> Result<(), SegmentFault>
-    ensures put { Puts (stream K.written K.faults out.old out.new) text.old.items text.new.items (reply_text decider.old.settings decider.old.state (entry_of update)) result }
+    requires { HasThreshold update }
+    ensures put { Puts (stream K.written K.faults out.old out.new) text.old.items text.new.items (reply_text decider.old.held.settings decider.old.held.state decider.old.points update) result }
     ensures ok { OnOk result (decider.new ≡ after_update decider.old update) }
 {
     if push_asked(text, &update).is_err() {
         return Err(SegmentFault::NoMemory);
     }
-    let Ok(why) = decider.decide(update) else {
+    let Ok(told) = decider.decide(update) else {
         return Err(SegmentFault::NoMemory);
     };
-    if push_verdict(text, why).is_err() {
+    if push_told(text, told).is_err() {
         return Err(SegmentFault::NoMemory);
     }
     drain(out, text)
@@ -166,7 +185,8 @@ fn put_step<K: Sink>(
     decider: &mut Decider,
     step: Step,
 ) -> Result<(), SegmentFault>
-    ensures put { Puts (stream K.written K.faults out.old out.new) text.old.items text.new.items (step_text decider.old step) result }
+    requires { StepHasThreshold step }
+    ensures put { Puts (stream K.written K.faults out.old out.new) text.old.items text.new.items (turn_text decider.old.held (turn_of decider.old.points step)) result }
     ensures ok { OnOk result (decider.new ≡ after_step decider.old step) }
 {
     match step {
@@ -182,8 +202,9 @@ fn put_steps<K: Sink>(
     decider: &mut Decider,
     steps: Vec<Step>,
 ) -> Result<(), SegmentFault>
-    ensures put { Puts (stream K.written K.faults out.old out.new) text.old.items text.new.items (own_text decider.old steps.items) result }
-    ensures ok { OnOk result (decider.new ≡ held_from decider.old steps.items) }
+    requires { HaveThresholds steps.items }
+    ensures put { Puts (stream K.written K.faults out.old out.new) text.old.items text.new.items (own_text decider.old.held (turns_of decider.old.points steps.items)) result }
+    ensures ok { OnOk result (decider.new ≡ deciding_from decider.old steps.items) }
 {
     let mut rest = steps.into_iter();
     while let Some(step) = rest.next() {
@@ -192,18 +213,37 @@ fn put_steps<K: Sink>(
     Ok(())
 }
 
-/// Does the steps in their order, and writes their replies. The buffer is kept for the next call.
+/// Does the steps in their order, and writes their replies.
+fn write_steps<K: Sink>(
+    out: &mut K,
+    text: &mut Vec<u8>,
+    decider: &mut Decider,
+    steps: Vec<Step>,
+) -> Result<(), SegmentFault>
+    requires { HaveThresholds steps.items }
+    ensures text { Answers decider.old.held (turns_of decider.old.points steps.items) (stream K.written K.faults out.old out.new) result }
+    ensures later { OnOk result (K.faults out.old ≤ K.faults out.new) }
+    ensures ok { OnOk result (decider.new ≡ deciding_from decider.old steps.items) }
+{
+    text.clear();
+    put_steps(out, text, decider, steps)?;
+    flush(out, text)
+}
+
+/// Runs a segment of these steps. The buffer is kept for the next call.
 pub(crate) fn run_steps<K: Sink>(
     out: &mut K,
     text: &mut Vec<u8>,
     decider: &mut Decider,
     steps: Vec<Step>,
 ) -> Result<(), SegmentFault>
-    ensures text { Answers decider.old steps.items (stream K.written K.faults out.old out.new) result }
+    requires { HaveThresholds steps.items }
+    ensures text { Answers decider.old.held (turns_of (kept_of decider.old).points steps.items) (stream K.written K.faults out.old out.new) result }
     ensures later { OnOk result (K.faults out.old ≤ K.faults out.new) }
-    ensures ok { OnOk result (decider.new ≡ after_steps decider.old steps.items) }
+    ensures ok { OnOk result (kept_of decider.new ≡ after_segment (kept_of decider.old) steps.items) }
 {
-    text.clear();
-    put_steps(out, text, decider, steps)?;
-    flush(out, text)
+    match decider.open() {
+        Ok(()) => write_steps(out, text, decider, steps),
+        Err(NoMemory) => Err(SegmentFault::NoMemory),
+    }
 }

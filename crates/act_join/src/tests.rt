@@ -106,6 +106,65 @@ fn scripts_have_their_replies(rt: HostRuntime) -> Result<(), Fail> {
     Ok(())
 }
 
+/// Runs a script with one cell for a covering.
+fn run_trained<T: Threads + Sync>(rt: &T, alloc: Global, script: &str) -> Result<MemSink, Fail> {
+    let mut input = MemSource::new(alloc, script.as_bytes(), 4096, [].as_slice())?;
+    let mut out = MemSink::new(alloc, 4096, 100, [].as_slice())?;
+    if let Some(settings) = Settings::new(0, 16_384, 1, 4) {
+        assert_eq!(rt;
+            engine(rt, alloc, settings, &mut input, &mut out, &NoGate),
+            Ended::Done
+        );
+    }
+    Ok(out)
+}
+
+#[test]
+fn trainings_have_their_samples(rt: HostRuntime) -> Result<(), Fail> {
+    let alloc = rt.alloc();
+    let zone = "zone,7,\"POLYGON((0 0,1000000 0,1000000 1000000,0 1000000,0 0))\"\n";
+    let five =
+        "point,1,300000,300000\npoint,2,300000,300000\npoint,3,300000,300000\npoint,4,300000,300000\npoint,5,300000,300000\n";
+    let told = "1,7\n2,7\n3,7\n4,7\n5,7\n";
+    let cases = [
+        (
+            format!(in alloc;
+                "{zone}sync\n{five}sync\ntrain,5\n{five}sync\ntrain,5\nsync\n{five}"
+            )?,
+            format!(in alloc;
+                "zone 7 ok\nbatch 1 after 1 points 5\n{told}train split 1\nbatch 2 after 1 points 5\n{told}train split 1\nbatch 3 after 1 points 5\n{told}"
+            )?,
+        ),
+        (
+            format!(in alloc;
+                "{zone}{five}batch\ntrain,5\nsync\ntrain,5\ntrain,1\nsync\ntrain,1\n"
+            )?,
+            format!(in alloc;
+                "zone 7 ok\nbatch 1 after 1 points 5\n{told}train split 0\ntrain split 1\ntrain split 0\ntrain split 0\n"
+            )?,
+        ),
+        (
+            format!(in alloc;
+                "{five}sync\n{five}sync\n{zone}train,11\nsync\ntrain,1\n{five}sync\ntrain,6\ntrain,1\n"
+            )?,
+            format!(in alloc;
+                "batch 1 after 0 points 5\nbatch 2 after 0 points 5\nzone 7 ok\ntrain split 0\ntrain split 0\nbatch 3 after 1 points 5\n{told}train split 0\ntrain split 0\n"
+            )?,
+        ),
+        (
+            format!(in alloc; "{five}sync\n{five}sync\n{zone}train,10\ndrop,7\ndrop,7\n{five}")?,
+            format!(in alloc;
+                "batch 1 after 0 points 5\nbatch 2 after 0 points 5\nzone 7 ok\ntrain split 1\ndrop 7 ok\ndrop 7 refused unknown\nbatch 3 after 2 points 5\n"
+            )?,
+        ),
+    ];
+    for (script, wanted) in &cases {
+        let out = run_trained(&rt, alloc, script.as_str())?;
+        assert_eq!(rt; out.bytes(), wanted.as_str().as_bytes());
+    }
+    Ok(())
+}
+
 #[test]
 fn a_bad_line_ends_the_run(rt: HostRuntime) -> Result<(), Fail> {
     let alloc = rt.alloc();

@@ -1,10 +1,10 @@
 //! The words of replies, in the buffer.
 
 ghost use Rattle.std.specs.Prelude.{◌≡◌, ◌++◌, OnOk, codes, decimal};
-ghost use Rattle.act_script.specs.History.{entry_of};
-ghost use Rattle.act_join.specs.Replies.{head_text, key_text};
-ghost use Rattle.act_script.specs.Text.{entry_text, verdict_text};
+ghost use Rattle.act_join.specs.Replies.{end_text, head_text, key_text};
+ghost use Rattle.act_script.specs.Text.{asked_text, verdict_text};
 
+use crate::told::Told;
 use act_script::{Batch, Update};
 use act_super::Verdict;
 use itoa::Buffer;
@@ -22,7 +22,7 @@ fn push_number(text: &mut Vec<u8>, number: u64) -> Result<(), AllocError>
 
 /// The start of the reply to an update.
 pub(crate) fn push_asked(text: &mut Vec<u8>, update: &Update) -> Result<(), AllocError>
-    ensures { OnOk result (text.new.items ≡ text.old.items ++ entry_text (entry_of update.now)) }
+    ensures { OnOk result (text.new.items ≡ text.old.items ++ asked_text update.now) }
 {
     match update {
         Update::Add { key, .. } => {
@@ -37,11 +37,26 @@ pub(crate) fn push_asked(text: &mut Vec<u8>, update: &Update) -> Result<(), Allo
             text.extend_from_slice(b"replace ")?;
             push_number(text, u64::from(*key))
         }
+        Update::Train { .. } => text.extend_from_slice(b"train"),
     }
 }
 
-/// The end of the reply to an update: accepted, or why not.
-pub(crate) fn push_verdict(text: &mut Vec<u8>, why: Option<Verdict>) -> Result<(), AllocError>
+/// The end of the reply to an update.
+pub(crate) fn push_told(text: &mut Vec<u8>, told: Told) -> Result<(), AllocError>
+    ensures { OnOk result (text.new.items ≡ text.old.items ++ end_text told) }
+{
+    match told {
+        Told::Verdict(why) => push_verdict(text, why),
+        Told::Split(cells) => {
+            text.extend_from_slice(b" split ")?;
+            push_number(text, u64::from(cells))?;
+            text.extend_from_slice(b"\n")
+        }
+    }
+}
+
+/// The end of the reply to a change of the zones: accepted, or why not.
+fn push_verdict(text: &mut Vec<u8>, why: Option<Verdict>) -> Result<(), AllocError>
     ensures { OnOk result (text.new.items ≡ text.old.items ++ verdict_text why) }
 {
     match why {

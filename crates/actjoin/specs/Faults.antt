@@ -29,6 +29,7 @@ line_fault_text fault.Kind = codes "unknown record"
 line_fault_text fault.Fields = codes "wrong fields"
 line_fault_text fault.Key = codes "bad key"
 line_fault_text fault.PointId = codes "bad point id"
+line_fault_text fault.Threshold = codes "bad threshold"
 line_fault_text fault.Number = codes "bad number"
 line_fault_text fault.Range = codes "number out of range"
 line_fault_text (fault.Wkt kind place) = codes "wkt " ++ wkt_name kind ++ (codes " at " ++ decimal place)

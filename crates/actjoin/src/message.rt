@@ -73,6 +73,7 @@ fn put_line_fault<K: Sink>(out: &mut K, fault: LineFault) -> Result<(), Failed>
         LineFault::Fields => put(out, b"wrong fields"),
         LineFault::Key => put(out, b"bad key"),
         LineFault::PointId => put(out, b"bad point id"),
+        LineFault::Threshold => put(out, b"bad threshold"),
         LineFault::Number => put(out, b"bad number"),
         LineFault::Range => put(out, b"number out of range"),
         LineFault::Wkt { kind, place } => put_wkt_fault(out, kind, place),

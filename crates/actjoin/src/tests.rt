@@ -132,11 +132,33 @@ fn good_scripts(rt: HostRuntime) -> Result<(), Fail> {
     Ok(())
 }
 
+/// Costly cells are trained, and the answers stay. The sample is the points of earlier segments from that
+/// of the training before on, so the second training of a segment has none.
+#[test]
+fn trainings(rt: HostRuntime) -> Result<(), Fail> {
+    let alloc = rt.alloc();
+    let zone = "zone,7,\"POLYGON((0 0,1000000 0,1000000 1000000,0 1000000,0 0))\"\n";
+    let points = "point,1,300000,300000\npoint,2,300000,300000\n";
+    let script = format!(in alloc;
+        "{zone}sync\n{points}sync\ntrain,2\n{points}sync\ntrain,2\ntrain,2\ntrain,3\nsync\n{points}"
+    )?;
+    let words = ["join", "--digits", "0", "--cells", "1"];
+    let told = run(&rt, &words, script.as_str())?;
+    let text =
+        "zone 7 ok\nbatch 1 after 1 points 2\n1,7\n2,7\ntrain split 1\nbatch 2 after 1 points 2\n1,7\n2,7\ntrain split 1\ntrain split 0\ntrain split 0\nbatch 3 after 1 points 2\n1,7\n2,7\n";
+    assert_eq!(rt; told.out.as_str(), text);
+    assert_eq!(rt; told.err.as_str(), "");
+    assert_eq!(rt; told.status, 0);
+    Ok(())
+}
+
 /// Lines, each with its fault.
-static BAD_LINES: [(&str, &str); 32] = [
+static BAD_LINES: [(&str, &str); 34] = [
     ("circle,1", "unknown record"),
     ("Zone,1,\"POLYGON EMPTY\"", "unknown record"),
-    ("train,0", "unknown record"),
+    ("train,0", "bad threshold"),
+    ("train,4294967296", "bad threshold"),
+    ("train,1,1", "wrong fields"),
     ("\0", "unknown record"),
     ("point,1,0", "wrong fields"),
     ("batch,1", "wrong fields"),

@@ -1,17 +1,14 @@
-use Rattle.act_join.proofs.ReplyFacts.{stopped, flushed, later_on, ended}
+use Rattle.act_script.specs.Turns.{turns_of}
+use Rattle.act_join.specs.Kept.{kept_of}
+use Rattle.act_join.proofs.ReplyFacts.{kept_on, unopened}
 use Rattle.act_join.proofs.put.run_steps.Goals as goal
 
-pub returns-in_err-put_steps-clause-text : goal.returns-in_err-put_steps-clause-text
-returns-in_err-put_steps-clause-text g c =
-    stopped c.args.decider.now c.args.steps.items _ c.clear.new.self.items c.in_err-put_steps.field-0.0 c.from_residual.result c.from_residual.ensures.1 c.clear.ensures.items c.in_err-put_steps.ensures.put
+pub returns-in-Ok-clause-text : goal.returns-in-Ok-clause-text
+returns-in-Ok-clause-text g c = rw c.in-Ok.ensures at c.write_steps.ensures.text
 
-pub returns-clause-text : goal.returns-clause-text
-returns-clause-text g c =
-    flushed _ _ _ _ _ _ c.args.decider.now c.args.steps.items c.clear.new.self.items c.put_steps.new.text.items c.flush.new.text.items c.flush.result c.clear.ensures.items
-    c.in_ok-put_steps.ensures.put c.flush.ensures.put c.flush.ensures.empty
+pub returns-in-Ok-clause-ok : goal.returns-in-Ok-clause-ok
+returns-in-Ok-clause-ok g c =
+    kept_on c.write_steps.result c.write_steps.new.decider (kept_of c.args.decider.now) c.args.steps.items (rw c.in-Ok.ensures at c.write_steps.ensures.ok)
 
-pub returns-clause-ok : goal.returns-clause-ok
-returns-clause-ok g c = ended c.flush.result c.put_steps.new.decider c.args.decider.now c.args.steps.items c.in_ok-put_steps.ensures.ok
-
-pub returns-clause-later : goal.returns-clause-later
-returns-clause-later g c = later_on _ _ _ _ _ _ _ c.put_steps.new.text.items c.flush.new.text.items c.flush.result c.in_ok-put_steps.ensures.put c.flush.ensures.put
+pub returns-in-Err-clause-text : goal.returns-in-Err-clause-text
+returns-in-Err-clause-text g c = unopened c.args.decider.now.held (turns_of (kept_of c.args.decider.now).points c.args.steps.items) (g.K.Sink.written c.args.out.now) (g.K.Sink.faults c.args.out.now) (g.K.Sink.faults c.args.out.now)
