@@ -25,7 +25,7 @@ text_front settings script out h = (h.0, h.1, whole_front out _ h.2)
 
 none_front : (settings : Settings) (script : List ℕ) (out : Stream) → Keeps out.old out.new → GetsTextFront settings script out
 none_front settings script out h = (
-  least_counts settings nothing 0 (script_segments settings.digits script),
+  least_counts settings nothing [] 0 (script_segments settings.digits script),
   least_counts_are_fair settings script,
   (0, appends-kept out.old out.old out.new [] (appends-none out.old) h),
 )
