@@ -162,7 +162,7 @@ fn join_all<L: Ledger>(
     ensures reads { IfOk result (λ r. (settings : Settings) (state : State) → Stands settings (sight_of words.old.pin.version.image) root state → r.1 ≤ sum_by (λ p. reads_of settings state p layers) points.now) }
     ensures most { IfOk result (λ r. length r.0 ≤ 510 * length points.now) }
 {
-    let mut pairs = Vec::new(alloc);
+    let mut pairs = Vec::with_capacity(alloc, points.len())?;
     let mut keys = Keys::new();
     let mut reads = 0;
     for i in 0..points.len() {

@@ -1,10 +1,10 @@
 //! Worked updates and answers: what a reader finds between updates, why updates are refused, and a reader that holds a
 //! version while zones come and go.
 
-ghost use Rattle.std.specs.Prelude.{◌≡◌, ◌<◌};
+ghost use Rattle.std.specs.Prelude.{◌≡◌, ◌<◌, IfOk};
 
 use crate::law::histories_tell_entries;
-use crate::{At, Done, Refused, Turned, Writer};
+use crate::{At, Done, Reader, Refused, Turned, Writer};
 use act_base::Steps;
 use act_geom::Shape;
 use act_grid::{Layers, NoMemory, Point, Settings};
@@ -55,36 +55,100 @@ pub(crate) fn version_after(dropped: Result<Done, Refused>) -> Result<u64, Refus
     }
 }
 
-/// Two adds with a drop between them at eight rows, while an idle reader stays lent, and what it finds at (9, 9).
+/// A writer at version 0, and its first reader.
+pub(crate) fn opened(alloc: Global, rows: u32) -> Result<(Writer, Reader), Fail>
+    ensures { IfOk result (λ r. r.1.table ≡ r.0.table) }
+{
+    let mut writer = Writer::new(alloc, settings(rows)?, 1)?;
+    let Ok(reader) = writer.lend() else {
+        return Err(Fail::from("no pin"));
+    };
+    Ok((writer, reader))
+}
+
+/// Adds the square from (0, 0) to (10, 10).
+pub(crate) fn add<L: Ledger>(
+    alloc: Global,
+    writer: &mut Writer,
+    key: u32,
+    steps: &mut Steps<L>,
+) -> Result<u64, Refused>
+    ensures { writer.new.table ≡ writer.old.table }
+{
+    match small(alloc) {
+        Ok(shape) => version_of(writer.add(key, shape, steps)),
+        Err(_) => Err(Refused::NoMemory),
+    }
+}
+
+/// Gives the zone that square, or one far from it.
+fn replace<L: Ledger>(
+    alloc: Global,
+    writer: &mut Writer,
+    key: u32,
+    far: bool,
+    steps: &mut Steps<L>,
+) -> Result<u64, Refused> {
+    match shape_of(alloc, far) {
+        Ok(shape) => version_of(writer.replace(key, shape, steps)),
+        Err(_) => Err(Refused::NoMemory),
+    }
+}
+
+fn shape_of(alloc: Global, far: bool) -> Result<Shape, NoMemory> {
+    if far {
+        square(alloc, (-1008, -1008), (-998, -998))
+    } else {
+        small(alloc)
+    }
+}
+
+fn add_far<L: Ledger>(
+    alloc: Global,
+    writer: &mut Writer,
+    key: u32,
+    steps: &mut Steps<L>,
+) -> Result<u64, Refused> {
+    match shape_of(alloc, true) {
+        Ok(shape) => version_of(writer.add(key, shape, steps)),
+        Err(_) => Err(Refused::NoMemory),
+    }
+}
+
+/// Two adds with a drop between them, while an idle reader stays lent, and what it finds at (9, 9).
 fn with_idle_reader<L: Ledger>(
     alloc: Global,
+    writer: &mut Writer,
+    reader: &mut Reader,
     blank: Blank,
-) -> Result<([Result<u64, Refused>; 3], [At; 3]), Fail>
+) -> ([Result<u64, Refused>; 3], [At; 3])
     requires name { blank.name ≡ L.name }
     requires parts { (blank.parts ≡ L.parts) × (0 < L.parts) }
+    requires table { reader.old.table ≡ writer.old.table }
 {
     let mut steps = Steps::<L>::new(blank);
     let mut keys = Keys::new();
     let p = Point { x: 9, y: 9 };
-    let mut writer = Writer::new(alloc, settings(8)?, 1)?;
-    let Ok(mut reader) = writer.lend() else {
-        return Err(Fail::from("no pin"));
-    };
     let nothing = reader.at(p, Layers::all(), &mut keys, &mut steps);
-    let first = version_of(writer.add(7, small(alloc)?, &mut steps));
+    let first = add(alloc, writer, 7, &mut steps);
     let one = reader.at(p, Layers::all(), &mut keys, &mut steps);
     let second = version_after(writer.drop_zone(7, &mut steps));
-    let third = version_of(writer.add(7, small(alloc)?, &mut steps));
+    let third = add(alloc, writer, 7, &mut steps);
     reader.learn(writer.note());
     let again = reader.at(p, Layers::all(), &mut keys, &mut steps);
-    writer.give_back(reader);
-    Ok(([first, second, third], [nothing, one, again]))
+    ([first, second, third], [nothing, one, again])
 }
 
 #[test]
 fn an_idle_reader_holds_no_version(rt: HostRuntime) -> Result<(), Fail> {
     histories_tell_entries();
-    let (updates, found) = with_idle_reader::<Brand>(rt.alloc(), Blank::new(1))?;
+    let (mut writer, mut reader) = opened(rt.alloc(), 8)?;
+    let (updates, found) = with_idle_reader::<Brand>(
+        rt.alloc(),
+        &mut writer,
+        &mut reader,
+        Blank::new(1),
+    );
     assert_eq!(rt; updates, [Ok(1), Ok(2), Ok(3)]);
     assert_eq!(rt;
         (found[0].version, found[0].count, found[0].reads),
@@ -97,29 +161,32 @@ fn an_idle_reader_holds_no_version(rt: HostRuntime) -> Result<(), Fail> {
 }
 
 /// Updates at eight rows, most of them refused.
-fn refusals<L: Ledger>(alloc: Global, blank: Blank) -> Result<[Result<u64, Refused>; 9], Fail>
+fn refusals<L: Ledger>(
+    alloc: Global,
+    writer: &mut Writer,
+    blank: Blank,
+) -> [Result<u64, Refused>; 9]
     requires name { blank.name ≡ L.name }
     requires parts { (blank.parts ≡ L.parts) × (0 < L.parts) }
 {
     let mut steps = Steps::<L>::new(blank);
-    let mut writer = Writer::new(alloc, settings(8)?, 1)?;
-    let far = || square(alloc, (-1008, -1008), (-998, -998));
-    Ok([
-        version_of(writer.add(7, small(alloc)?, &mut steps)),
-        version_of(writer.add(7, small(alloc)?, &mut steps)),
+    [
+        add(alloc, writer, 7, &mut steps),
+        add(alloc, writer, 7, &mut steps),
         version_after(writer.drop_zone(9, &mut steps)),
-        version_of(writer.replace(9, small(alloc)?, &mut steps)),
-        version_of(writer.replace(7, small(alloc)?, &mut steps)),
-        version_of(writer.add(2, far()?, &mut steps)),
-        version_of(writer.replace(7, far()?, &mut steps)),
+        replace(alloc, writer, 9, false, &mut steps),
+        replace(alloc, writer, 7, false, &mut steps),
+        add_far(alloc, writer, 2, &mut steps),
+        replace(alloc, writer, 7, true, &mut steps),
         version_after(writer.drop_zone(7, &mut steps)),
-        version_of(writer.add(2, far()?, &mut steps)),
-    ])
+        add_far(alloc, writer, 2, &mut steps),
+    ]
 }
 
 #[test]
 fn updates_are_refused_for_their_causes(rt: HostRuntime) -> Result<(), Fail> {
-    let told = refusals::<Brand>(rt.alloc(), Blank::new(1))?;
+    let mut writer = Writer::new(rt.alloc(), settings(8)?, 1)?;
+    let told = refusals::<Brand>(rt.alloc(), &mut writer, Blank::new(1));
     let wanted = [
         Ok(1),
         Err(Refused::Duplicate),
@@ -132,35 +199,41 @@ fn updates_are_refused_for_their_causes(rt: HostRuntime) -> Result<(), Fail> {
         Ok(4),
     ];
     assert_eq!(rt; told, wanted);
+    assert_eq!(rt; writer.updates(), 4);
     Ok(())
 }
 
-/// The reads at (5, 5) for all layers, layer 1 and no layers, where zones of layers 0 and 1 hold the point.
-fn layered_reads<L: Ledger>(alloc: Global, blank: Blank) -> Result<[At; 3], Fail>
+/// What is found at (5, 5) for all layers, layer 1 and no layers, where zones of layers 0 and 1 hold the point.
+fn layered<L: Ledger>(
+    alloc: Global,
+    writer: &mut Writer,
+    reader: &mut Reader,
+    blank: Blank,
+) -> ([Result<u64, Refused>; 2], [At; 3])
     requires name { blank.name ≡ L.name }
     requires parts { (blank.parts ≡ L.parts) × (0 < L.parts) }
 {
     let mut steps = Steps::<L>::new(blank);
     let mut keys = Keys::new();
     let p = Point { x: 5, y: 5 };
-    let mut writer = Writer::new(alloc, settings(64)?, 1)?;
-    let Ok(mut reader) = writer.lend() else {
-        return Err(Fail::from("no pin"));
-    };
-    let one = writer.add(7, small(alloc)?, &mut steps).is_ok();
-    let two = writer.add(16_777_223, small(alloc)?, &mut steps).is_ok();
-    if !(one && two) {
-        return Err(Fail::from("an add was refused"));
-    }
+    let one = add(alloc, writer, 7, &mut steps);
+    let two = add(alloc, writer, 16_777_223, &mut steps);
     let all = reader.at(p, Layers::all(), &mut keys, &mut steps);
     let first = reader.at(p, Layers::none().with(1), &mut keys, &mut steps);
     let none = reader.at(p, Layers::none(), &mut keys, &mut steps);
-    Ok([all, first, none])
+    ([one, two], [all, first, none])
 }
 
 #[test]
 fn layers_that_are_not_asked_for_are_not_tested(rt: HostRuntime) -> Result<(), Fail> {
-    let [all, first, none] = layered_reads::<Brand>(rt.alloc(), Blank::new(1))?;
+    let (mut writer, mut reader) = opened(rt.alloc(), 64)?;
+    let (updates, [all, first, none]) = layered::<Brand>(
+        rt.alloc(),
+        &mut writer,
+        &mut reader,
+        Blank::new(1),
+    );
+    assert_eq!(rt; updates, [Ok(1), Ok(2)]);
     assert_eq!(rt; (all.count, first.count, none.count), (2, 1, 0));
     assert!(rt; all.reads <= 21 && first.reads <= 15 && none.reads <= 9);
     Ok(())

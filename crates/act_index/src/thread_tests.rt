@@ -2,7 +2,7 @@
 
 ghost use Rattle.std.specs.Prelude.{◌≡◌, ◌<◌};
 
-use crate::tests::{settings, small};
+use crate::tests::{add, opened};
 use crate::{Reader, Writer};
 use act_base::Steps;
 use act_grid::{Layers, Point};
@@ -17,36 +17,32 @@ use std::thread::Threads;
 /// Adds the zone where it doesn't stand, and else drops it, and says whether that was done.
 fn turn<L: Ledger>(alloc: Global, writer: &mut Writer, steps: &mut Steps<L>) -> bool {
     if writer.version() % 2 == 1 {
-        return writer.drop_zone(7, steps).is_ok();
-    }
-    match small(alloc) {
-        Ok(shape) => writer.add(7, shape, steps).is_ok(),
-        Err(_) => false,
+        writer.drop_zone(7, steps).is_ok()
+    } else {
+        add(alloc, writer, 7, steps).is_ok()
     }
 }
 
 /// Changes the zone 400 times, and says how often that was done.
-fn write_often<L: Ledger>(alloc: Global, writer: Writer, blank: Blank) -> (Writer, u64)
+fn write_often<L: Ledger>(alloc: Global, writer: &mut Writer, blank: Blank) -> u64
     requires blank { (blank.name ≡ L.name) × (blank.parts ≡ L.parts) × (0 < L.parts) }
 {
     let mut steps = Steps::<L>::new(blank);
-    let mut writer = writer;
     let mut done: u64 = 0;
     for _ in 0..400 {
-        if turn(alloc, &mut writer, &mut steps) {
+        if turn(alloc, writer, &mut steps) {
             done = done.wrapping_add(1);
         }
     }
-    (writer, done)
+    done
 }
 
 /// Asks 400 times, and says whether the zone was found in the odd versions alone, and no version was below the one before.
-fn read_often<L: Ledger>(reader: Reader, blank: Blank) -> bool
+fn read_often<L: Ledger>(reader: &mut Reader, blank: Blank) -> bool
     requires blank { (blank.name ≡ L.name) × (blank.parts ≡ L.parts) × (0 < L.parts) }
 {
     let mut steps = Steps::<L>::new(blank);
     let mut keys = Keys::new();
-    let mut reader = reader;
     let mut good = true;
     let mut before = 0;
     for _ in 0..400 {
@@ -60,37 +56,33 @@ fn read_often<L: Ledger>(reader: Reader, blank: Blank) -> bool
 fn both<R: Threads + Sync, L: Ledger + Send + Sync, M: Ledger + Send + Sync>(
     rt: &R,
     alloc: Global,
-    writer: Writer,
-    reader: Reader,
+    writer: &mut Writer,
+    reader: &mut Reader,
     writes: Blank,
     reads: Blank,
-) -> (Writer, u64, bool)
+) -> (u64, bool)
     requires writes { (writes.name ≡ L.name) × (writes.parts ≡ L.parts) × (0 < L.parts) }
     requires reads { (reads.name ≡ M.name) × (reads.parts ≡ M.parts) × (0 < M.parts) }
 {
-    let ((writer, done), good) = thread::join(
+    thread::join(
         rt,
-        || -> (Writer, u64)
+        || -> u64
             requires { (writes.name ≡ L.name) × (writes.parts ≡ L.parts) × (0 < L.parts) }
         { write_often::<L>(alloc, writer, writes) },
         || -> bool
             requires { (reads.name ≡ M.name) × (reads.parts ≡ M.parts) × (0 < M.parts) }
         { read_often::<M>(reader, reads) },
-    );
-    (writer, done, good)
+    )
 }
 
 #[test]
 fn answers_beside_updates(rt: HostRuntime) -> Result<(), Fail> {
-    let mut writer = Writer::new(rt.alloc(), settings(8)?, 1)?;
-    let Ok(reader) = writer.lend() else {
-        return Err(Fail::from("no pin"));
-    };
-    let (writer, done, good) = both::<HostRuntime, Brand, Brand>(
+    let (mut writer, mut reader) = opened(rt.alloc(), 8)?;
+    let (done, good) = both::<HostRuntime, Brand, Brand>(
         &rt,
         rt.alloc(),
-        writer,
-        reader,
+        &mut writer,
+        &mut reader,
         Blank::new(1),
         Blank::new(1),
     );
