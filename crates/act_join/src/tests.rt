@@ -107,16 +107,18 @@ fn scripts_have_their_replies(rt: HostRuntime) -> Result<(), Fail> {
 }
 
 /// Runs a script with one cell for a covering.
-fn run_trained<T: Threads + Sync>(rt: &T, alloc: Global, script: &str) -> Result<MemSink, Fail> {
+fn run_trained<T: Threads + Sync>(
+    rt: &T,
+    alloc: Global,
+    script: &str,
+) -> Result<(Ended, MemSink), Fail> {
     let mut input = MemSource::new(alloc, script.as_bytes(), 4096, [].as_slice())?;
     let mut out = MemSink::new(alloc, 4096, 100, [].as_slice())?;
-    if let Some(settings) = Settings::new(0, 16_384, 1, 4) {
-        assert_eq!(rt;
-            engine(rt, alloc, settings, &mut input, &mut out, &NoGate),
-            Ended::Done
-        );
-    }
-    Ok(out)
+    let ended = match Settings::new(0, 16_384, 1, 4) {
+        Some(settings) => engine(rt, alloc, settings, &mut input, &mut out, &NoGate),
+        None => Ended::NoMemory,
+    };
+    Ok((ended, out))
 }
 
 #[test]
@@ -159,7 +161,8 @@ fn trainings_have_their_samples(rt: HostRuntime) -> Result<(), Fail> {
         ),
     ];
     for (script, wanted) in &cases {
-        let out = run_trained(&rt, alloc, script.as_str())?;
+        let (ended, out) = run_trained(&rt, alloc, script.as_str())?;
+        assert_eq!(rt; ended, Ended::Done);
         assert_eq!(rt; out.bytes(), wanted.as_str().as_bytes());
     }
     Ok(())
