@@ -5,7 +5,8 @@
 //!
 //! The steps of a segment are done in the order of the script, one after another. An update is prepared and
 //! committed, or turned away. A batch is answered over the zones that stand when it is reached, by testing
-//! each point against each zone of its layers, and its count is the number of updates accepted before it.
+//! each point against each zone of its layers, and its count is the number of updates accepted before it. A
+//! training splits cells that are costly for the points of earlier segments; the answers stay.
 //! Replies gather in one buffer, which is written at the end of a line once it has 64 KiB, and at the end
 //! of the segment, so that a great answer needs no great buffer.
 //!
