@@ -16,3 +16,4 @@ pub mod SumFacts
 pub mod GatherFacts
 pub mod SettleFacts
 pub mod FinishFacts
+pub mod SweepFacts

@@ -3,3 +3,4 @@ pub mod Chains
 pub mod Ways
 pub mod Groups
 pub mod Batches
+pub mod Sweeps

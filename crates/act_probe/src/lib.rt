@@ -23,6 +23,7 @@ mod meet;
 mod point;
 mod refs;
 mod settle;
+mod sweep;
 #[cfg(test)]
 mod tests;
 mod told;

@@ -1,0 +1,108 @@
+//! The candidates of one zone, tested by one way over its words.
+
+ghost use Rattle.std.specs.Prelude.{◌≡◌, ℕ, ◌+◌, ◌<◌, ◌≤◌, ◌≤ℤ◌, int_lt, length, map};
+ghost use Rattle.act_geom.specs.Body.{vertex_word};
+ghost use Rattle.act_probe.specs.Sweeps.{Ascends, IsAboveFrom, IsPlacedAt, crossed};
+
+use crate::buffers::Candidate;
+use act_geom::edge_counts;
+use act_grid::Point;
+
+/// Counts an edge for a candidate.
+#[inline]
+fn flip(candidate: &mut Candidate, a: Point, b: Point)
+    ensures { candidate.new ≡ crossed a b candidate.old }
+{
+    candidate.odd = candidate.odd != edge_counts(a, b, candidate.point);
+}
+
+/// Whether a candidate's point lies below the row of a vertex.
+#[inline]
+fn is_below(candidate: &Candidate, v: Point) -> bool
+    ensures { result ≡ int_lt candidate.now.point.y v.y }
+{
+    candidate.point.y < v.y
+}
+
+/// Counts an edge up from `a` to `b`, whose rows have places among the candidates: `from` is that of the row of `a`,
+/// and that of the row of `b` is answered.
+fn rise(run: &mut [Candidate], from: usize, a: Point, b: Point) -> usize
+    requires up { a.y ≤ℤ b.y }
+    requires ascends { Ascends run.old }
+    requires placed { IsPlacedAt a.y from run.old }
+    ensures crossed { run.new ≡ map (crossed a b) run.old }
+    ensures placed { IsPlacedAt b.y result run.new }
+{
+    let mut at = from;
+    while at < run.len() && is_below(&run[at], b) {
+        flip(&mut run[at], a, b);
+        at += 1;
+    }
+    at
+}
+
+/// Counts an edge down from `a` to `b`.
+fn fall(run: &mut [Candidate], from: usize, a: Point, b: Point) -> usize
+    requires down { b.y ≤ℤ a.y }
+    requires ascends { Ascends run.old }
+    requires placed { IsPlacedAt a.y from run.old }
+    ensures crossed { run.new ≡ map (crossed a b) run.old }
+    ensures placed { IsPlacedAt b.y result run.new }
+{
+    let mut at = from;
+    while at > 0 && !is_below(&run[at - 1], b) {
+        at -= 1;
+        flip(&mut run[at], a, b);
+    }
+    at
+}
+
+/// Counts an edge from `a` to `b`. Only the candidates of the rows between its ends are looked at.
+fn cross(run: &mut [Candidate], at: usize, a: Point, b: Point) -> usize
+    requires ascends { Ascends run.old }
+    requires placed { IsPlacedAt a.y at run.old }
+    ensures crossed { run.new ≡ map (crossed a b) run.old }
+    ensures placed { IsPlacedAt b.y result run.new }
+{
+    if a.y <= b.y {
+        rise(run, at, a, b)
+    } else {
+        fall(run, at, a, b)
+    }
+}
+
+/// A place from which on no point lies below the row of a vertex.
+fn seek_up(run: &[Candidate], from: usize, v: Point) -> usize
+    requires ascends { Ascends run.now }
+    requires within { from ≤ length run.now }
+    ensures { IsAboveFrom v.y result run.now }
+{
+    let mut at = from;
+    while at < run.len() && is_below(&run[at], v) {
+        at += 1;
+    }
+    at
+}
+
+/// The first of such places.
+fn seek_down(run: &[Candidate], from: usize, v: Point) -> usize
+    requires ascends { Ascends run.now }
+    requires above { IsAboveFrom v.y from run.now }
+    ensures { IsPlacedAt v.y result run.now }
+{
+    let mut at = from;
+    while at > 0 && !is_below(&run[at - 1], v) {
+        at -= 1;
+    }
+    at
+}
+
+/// The place of a vertex's row among the candidates, sought from another place.
+fn seek(run: &[Candidate], from: usize, v: Point) -> usize
+    requires ascends { Ascends run.now }
+    requires within { from ≤ length run.now }
+    ensures { IsPlacedAt v.y result run.now }
+{
+    let up = seek_up(run, from, v);
+    seek_down(run, up, v)
+}
