@@ -17,3 +17,4 @@ pub mod GatherFacts
 pub mod SettleFacts
 pub mod FinishFacts
 pub mod SweepFacts
+pub mod TraceFacts

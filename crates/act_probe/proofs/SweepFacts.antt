@@ -3,11 +3,12 @@ use Rattle.std.proofs.Common.{◌≡◌, ◌≢◌, ◌⊎◌, inl, inr, ℕ, ze
 use Rattle.std.specs.Prelude.{ℤ, ◌<ℤ◌, ◌≤ℤ◌, int_lt}
 use Rattle.std.proofs.Math.ListN.{set}
 use Rattle.std.proofs.lemmas.Int.{ints}
+use Rattle.std.proofs.lemmas.Simd.{map-map}
 use Rattle.std.proofs.lemmas.List.{get_or_default, length-map, map-append, take-append-drop}
 use Rattle.act_grid.specs.declared.Point.{Point}
 use Rattle.act_geom.specs.Inside.{counts, differ}
 use Rattle.act_probe.specs.declared.buffers.Candidate.{Candidate}
-use Rattle.act_probe.specs.Sweeps.{Ascends, IsAboveFrom, IsPlacedAt, crossed}
+use Rattle.act_probe.specs.Sweeps.{Ascends, IsAboveFrom, IsPlacedAt, at_rest, crossed}
 
 -- ---- a list that is mapped up to a place, and from a place on
 module _ {X : Type 0} (f : X → X) where
@@ -226,3 +227,7 @@ placed_here xs m at y d0 up one above low = record {
       omega (arith, ints, here, up k m d (omega (arith, past, one)) inside));
   above = above.above;
 }
+
+-- the candidates but for their counts stay
+pub crossed_rest : (a b : Point) (xs ys : List Candidate) → ys ≡ map (crossed a b) xs → map at_rest ys ≡ map at_rest xs
+crossed_rest a b xs ys is = ap (map at_rest) is ∙ map-map at_rest (crossed a b) xs

@@ -1,9 +1,16 @@
 -- The candidates of one zone, tested by one way over its words.
-use Rattle.std.specs.Prelude.{ℕ, ℤ, ◌+◌, ◌*◌, ◌^◌, ◌<◌, ◌≤◌, ◌<ℤ◌, ◌≤ℤ◌, List, length, slice_index_or}
+use Rattle.std.specs.Prelude.{◌≡◌, ◌≢◌, ℕ, ℤ, ◌+◌, ◌*◌, ◌^◌, ◌<◌, ◌≤◌, ◌<ℤ◌, ◌≤ℤ◌, Bool, true, false, List, [], ◌∷◌, length, slice_index_or}
 use Rattle.act_grid.specs.declared.Point.{Point}
 use Rattle.act_geom.specs.Body.{offset_of}
 use Rattle.act_geom.specs.Inside.{counts, differ}
+use Rattle.act_geom.specs.Walk.{Expects}
+use Rattle.act_geom.specs.declared.walk.Phase.{Phase}
+use Rattle.act_geom.specs.declared.walk.Phase.TheVariants as phase
+use Rattle.act_geom.specs.declared.walk.Walk.{Walk}
 use Rattle.act_probe.specs.declared.buffers.Candidate.{Candidate}
+use Rattle.act_probe.specs.declared.trace.Stage.{Stage}
+use Rattle.act_probe.specs.declared.trace.Stage.TheVariants as stage
+use Rattle.act_probe.specs.declared.trace.Trace.{Trace}
 
 -- by rows of chains, and then by the rows of the grid
 abbrev pub sort_key : Candidate → ℕ
@@ -27,3 +34,42 @@ pub record IsPlacedAt (y : ℤ) (at : ℕ) (cs : List Candidate) : Type 0 where
 -- the candidate, with the edge from a to b counted
 abbrev pub crossed : Point → Point → Candidate → Candidate
 crossed a b c = record c { odd = differ c.odd (counts c.point (record { a = a; b = b })) }
+
+-- ---- the words of a body
+-- the same stage of a walk for one point
+abbrev pub phase_of : Stage → Phase
+phase_of stage.Rings = phase.Rings
+phase_of stage.Count = phase.Count
+phase_of stage.First = phase.First
+phase_of stage.Next = phase.Next
+
+-- the walk of one candidate
+abbrev pub walk_of : Trace → Candidate → Walk
+walk_of t c = record {
+  point = c.point;
+  phase = phase_of t.stage;
+  odd = c.odd;
+  rings = t.rings;
+  vertices = t.vertices;
+  first = t.first;
+  last = t.last;
+}
+
+-- the words have come to their end, or go on
+abbrev pub Ends : Bool → Walk → List ℕ → Bool → Type 0
+Ends true w words answer = (words ≡ []) × (w.odd ≡ answer)
+Ends false w words answer = (words ≢ []) × Expects w words answer
+
+-- what becomes of a candidate's walk by a word that it expects, whatever words follow
+abbrev pub Follows : Trace → Candidate → ℕ → Bool → Trace → Candidate → Type 0
+Follows old before word done new after =
+    (words : List ℕ) (answer : Bool) → Expects (walk_of old before) (word ∷ words) answer → Ends done (walk_of new after) words answer
+
+-- the place is that of the last vertex's row
+pub record IsSet (t : Trace) (cs : List Candidate) : Type 0 where
+  pub within : t.at ≤ length cs
+  pub placed : t.stage ≡ stage.Next → IsPlacedAt t.last.y t.at cs
+
+-- the candidate but for its count
+abbrev pub at_rest : Candidate → Candidate
+at_rest c = record c { odd = false }

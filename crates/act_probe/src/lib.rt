@@ -27,6 +27,7 @@ mod sweep;
 #[cfg(test)]
 mod tests;
 mod told;
+mod trace;
 mod words;
 
 pub use batch::probe_batch;

@@ -2,7 +2,7 @@
 
 ghost use Rattle.std.specs.Prelude.{◌≡◌, ℕ, ◌+◌, ◌<◌, ◌≤◌, ◌≤ℤ◌, int_lt, length, map};
 ghost use Rattle.act_geom.specs.Body.{vertex_word};
-ghost use Rattle.act_probe.specs.Sweeps.{Ascends, IsAboveFrom, IsPlacedAt, crossed};
+ghost use Rattle.act_probe.specs.Sweeps.{Ascends, IsAboveFrom, IsPlacedAt, at_rest, crossed};
 
 use crate::buffers::Candidate;
 use act_geom::edge_counts;
@@ -58,11 +58,13 @@ fn fall(run: &mut [Candidate], from: usize, a: Point, b: Point) -> usize
 }
 
 /// Counts an edge from `a` to `b`. Only the candidates of the rows between its ends are looked at.
-fn cross(run: &mut [Candidate], at: usize, a: Point, b: Point) -> usize
+pub(crate) fn cross(run: &mut [Candidate], at: usize, a: Point, b: Point) -> usize
     requires ascends { Ascends run.old }
     requires placed { IsPlacedAt a.y at run.old }
     ensures crossed { run.new ≡ map (crossed a b) run.old }
     ensures placed { IsPlacedAt b.y result run.new }
+    ensures ascends { Ascends run.new }
+    ensures rest { map at_rest run.new ≡ map at_rest run.old }
 {
     if a.y <= b.y {
         rise(run, at, a, b)
@@ -98,7 +100,7 @@ fn seek_down(run: &[Candidate], from: usize, v: Point) -> usize
 }
 
 /// The place of a vertex's row among the candidates, sought from another place.
-fn seek(run: &[Candidate], from: usize, v: Point) -> usize
+pub(crate) fn seek(run: &[Candidate], from: usize, v: Point) -> usize
     requires ascends { Ascends run.now }
     requires within { from ≤ length run.now }
     ensures { IsPlacedAt v.y result run.now }
