@@ -18,3 +18,4 @@ pub mod SettleFacts
 pub mod FinishFacts
 pub mod SweepFacts
 pub mod TraceFacts
+pub mod OrderFacts

@@ -1,19 +1,22 @@
 -- One word of a body for all candidates of a zone.
-use Rattle.std.proofs.Common.{◌≡◌, ◌≢◌, ℕ, ◌-◌, ◌<◌, Bool, true, false, not, refl, sym, ap, ◌∙◌, subst, arith, List, [], ◌∷◌, length, map, get_or}
+use Rattle.std.proofs.Common.{◌≡◌, ◌≢◌, ℕ, suc, ◌-◌, ◌<◌, ◌≤◌, Bool, true, false, not, refl, sym, ap, ◌∙◌, subst, arith, List, [], ◌∷◌, length, map, get_or}
+use Rattle.std.specs.List.{All}
 use Rattle.std.proofs.lemmas.List.{get_or-map, length-map}
 use mathlib.Core.Bool.{beq}
 use Rattle.act_grid.specs.declared.Point.{Point}
-use Rattle.act_geom.specs.Body.{vertex_word}
-use Rattle.act_geom.specs.Inside.{counts, differ}
+use Rattle.act_geom.specs.Body.{body_of, vertex_word}
+use Rattle.act_geom.specs.Inside.{counts, differ, is_inside}
 use Rattle.act_geom.specs.Walk.{Expects}
 use Rattle.act_geom.specs.Walk.Expects.{AtRings, AtCount, AtFirst, AtNext}
 use Rattle.act_geom.specs.declared.walk.Phase.TheVariants as phase
 use Rattle.act_geom.specs.declared.walk.Walk.{Walk}
 use Rattle.act_geom.proofs.WalkFacts.{body_ended, count_taken, first_taken, next_taken, ring_ended, rings_taken}
+use Rattle.act_super.specs.declared.entry.Zone.{Zone}
 use Rattle.act_probe.specs.declared.buffers.Candidate.{Candidate}
 use Rattle.act_probe.specs.declared.trace.Stage.TheVariants as stage
 use Rattle.act_probe.specs.declared.trace.Trace.{Trace}
-use Rattle.act_probe.specs.Sweeps.{crossed, phase_of, walk_of}
+use Rattle.act_probe.specs.Batches.{answered}
+use Rattle.act_probe.specs.Sweeps.{Ends, at_rest, crossed, phase_of, walk_of}
 
 differ_is : (b c : Bool) → differ b c ≡ not (beq b c)
 differ_is true true = refl
@@ -90,3 +93,37 @@ pub crossed_twice : (a b e : Point) (xs ys zs : List Candidate) (k : ℕ) (d : C
     → get_or zs k d ≡ crossed b e (crossed a b (get_or xs k d))
 crossed_twice a b e xs ys zs k d within one two =
     crossed_at b e ys zs k d (omega (arith, within, ap length one, length-map xs (crossed a b))) two ∙ ap (crossed b e) (crossed_at a b xs ys k d within one)
+
+-- ---- the counts of a whole run
+same_head : {X : Type 0} {x y : X} {xs ys : List X} → x ∷ xs ≡ y ∷ ys → x ≡ y
+same_head e = cc
+
+same_tail : {X : Type 0} {x y : X} {xs ys : List X} → x ∷ xs ≡ y ∷ ys → xs ≡ ys
+same_tail e = cc
+
+pub rest_long : (new old : List Candidate) → map at_rest new ≡ map at_rest old → length new ≡ length old
+rest_long new old same = sym (length-map new at_rest) ∙ ap length same ∙ length-map old at_rest
+
+pub rest_answered : (zones : ℕ → Zone) (new old : List Candidate) → map at_rest new ≡ map at_rest old
+    → ((i : ℕ) (d : Candidate) → i < length old → (get_or new i d).odd ≡ is_inside (zones (get_or old i d).slot).shape (get_or old i d).point) → new ≡ map (answered zones) old
+rest_answered zones [] [] same odd = refl
+rest_answered zones [] (y ∷ old) same odd = absurd (cc)
+rest_answered zones (x ∷ new) [] same odd = absurd (cc)
+rest_answered zones (x ∷ new) (y ∷ old) same odd =
+    let e : at_rest x ≡ at_rest y = same_head same in
+    let o : x.odd ≡ is_inside (zones y.slot).shape y.point = odd 0 x (omega arith) in
+    let h : x ≡ answered zones y = (λ i. record (e i) { odd = o i }) in
+    λ i. h i ∷ rest_answered zones new old (same_tail same) (λ k d within. odd (suc k) d (omega (arith, within))) i
+
+-- what a word makes of a walk, at its end and before
+pub at_end : (done : Bool) (w : Walk) (words : List ℕ) (answer : Bool) → done ≡ true → Ends done w words answer → w.odd ≡ answer
+at_end true w words answer is h = h.1
+at_end false w words answer is h = absurd (cc)
+
+pub not_yet : (done : Bool) (w : Walk) (words : List ℕ) (answer : Bool) → done ≡ false → Ends done w words answer → Expects w words answer
+not_yet true w words answer is h = absurd (cc)
+not_yet false w words answer is h = h.1
+
+-- before the first word
+pub begun : (t : Trace) (c : Candidate) (rings : List (List Point)) → t.stage ≡ stage.Rings → All (λ (ring : List Point). 3 ≤ length ring) rings → Expects (walk_of t c) (body_of rings) (is_inside rings c.point)
+begun t c rings is full = AtRings (ap phase_of is) rings full refl refl

@@ -1,7 +1,6 @@
 -- The candidates of one zone, tested by one way over its words.
-use Rattle.std.specs.Prelude.{◌≡◌, ◌≢◌, ℕ, ℤ, ◌+◌, ◌*◌, ◌^◌, ◌<◌, ◌≤◌, ◌<ℤ◌, ◌≤ℤ◌, Bool, true, false, List, [], ◌∷◌, length, slice_index_or}
+use Rattle.std.specs.Prelude.{◌≡◌, ◌≢◌, ℕ, ℤ, ◌+◌, ◌<◌, ◌≤◌, ◌<ℤ◌, ◌≤ℤ◌, Bool, true, false, List, [], ◌∷◌, length, slice_index_or}
 use Rattle.act_grid.specs.declared.Point.{Point}
-use Rattle.act_geom.specs.Body.{offset_of}
 use Rattle.act_geom.specs.Inside.{counts, differ}
 use Rattle.act_geom.specs.Walk.{Expects}
 use Rattle.act_geom.specs.declared.walk.Phase.{Phase}
@@ -12,9 +11,10 @@ use Rattle.act_probe.specs.declared.trace.Stage.{Stage}
 use Rattle.act_probe.specs.declared.trace.Stage.TheVariants as stage
 use Rattle.act_probe.specs.declared.trace.Trace.{Trace}
 
--- by rows of chains, and then by the rows of the grid
-abbrev pub sort_key : Candidate → ℕ
-sort_key c = c.row * 2 ^ 32 + offset_of c.point.y
+-- of two candidates side by side whose chains begin at one row, the second one's point lies no lower
+abbrev pub RunsAscend : List Candidate → Type 0
+RunsAscend cs = (k : ℕ) (d : Candidate) → k + 1 < length cs → (slice_index_or cs (k + 1) d).row ≡ (slice_index_or cs k d).row
+    → (slice_index_or cs k d).point.y ≤ℤ (slice_index_or cs (k + 1) d).point.y
 
 -- the points lie on ascending rows of the grid
 abbrev pub Ascends : List Candidate → Type 0

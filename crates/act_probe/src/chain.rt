@@ -1,6 +1,6 @@
 //! Polygons in their chains of rows.
 
-ghost use Rattle.std.specs.Prelude.{◌≡◌, ◌+◌, ◌<◌, ◌≤◌, ◌^◌, ℕ, length, slice_index};
+ghost use Rattle.std.specs.Prelude.{◌≡◌, ◌+◌, ◌<◌, ◌≤◌, ◌%◌, ◌^◌, ℕ, length, slice_index};
 ghost use Rattle.act_super.specs.declared.entry.Zone.{Zone};
 ghost use Rattle.act_geom.specs.Body.{body_of};
 ghost use Rattle.act_geom.specs.Inside.{is_inside};
@@ -15,23 +15,38 @@ use act_grid::Point;
 use std::sync::ledger::Ledger;
 
 /// The words of the greatest body: of 87,381 rings with 262,144 vertices.
-const MOST_WORDS: u64 = 349_526;
+pub(crate) const MOST_WORDS: u64 = 349_526;
 
 /// The words of a row before its last place.
 const LAST_PLACE: u8 = 255;
 
 /// A place in a chain of rows.
 #[derive(Clone, Copy, Debug, PartialEq, Eq)]
-struct Chain {
+pub(crate) struct Chain {
     row: u32,
     next: u32,
     // How many rows were passed, and the place of the last word that was read.
-    passed: u64,
+    pub passed: u64,
     place: u8,
 }
 
+/// The place before the body in the chain that begins at a row, whose first word was read already.
+pub(crate) fn begin(row: u32, head: u64) -> Chain
+    ensures row { result.row ≡ row }
+    ensures next { result.next ≡ head % 2 ^ 32 }
+    ensures passed { result.passed ≡ 0 }
+    ensures place { result.place ≡ 0 }
+{
+    Chain {
+        row,
+        next: chain_next(head),
+        passed: 0,
+        place: 0,
+    }
+}
+
 /// The next word of a body.
-fn take<W: Words, L: Ledger>(
+pub(crate) fn take<W: Words, L: Ledger>(
     chain: &mut Chain,
     first: u32,
     words: &mut W,

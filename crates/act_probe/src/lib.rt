@@ -29,6 +29,7 @@ mod tests;
 mod told;
 mod trace;
 mod words;
+mod zones;
 
 pub use batch::probe_batch;
 pub use buffers::{Buffers, Hit};

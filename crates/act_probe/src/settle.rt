@@ -10,6 +10,7 @@ ghost use Rattle.act_super.specs.declared.entry.State.{State};
 ghost use Rattle.act_super.specs.declared.entry.Zone.{Zone};
 ghost use Rattle.act_super.specs.Joins.{join};
 ghost use Rattle.act_probe.specs.Reads.{body_reads, reads_of};
+ghost use Rattle.act_probe.specs.Sweeps.{RunsAscend};
 ghost use Rattle.act_probe.specs.Batches.{Asks, Gathers, Settles, answered, chosen, hit_of};
 
 use crate::buffers::{Candidate, Found, Hit};
@@ -18,11 +19,12 @@ use crate::words::Words;
 use act_base::Steps;
 use std::sync::ledger::Ledger;
 
-/// Brings the candidates of each zone together.
+/// Brings the candidates of each zone together, by ascending rows of the grid.
 fn order(candidates: &mut Vec<Candidate>)
-    ensures { IsPermutation candidates.old.items candidates.new.items }
+    ensures permutation { IsPermutation candidates.old.items candidates.new.items }
+    ensures ascends { RunsAscend candidates.new.items }
 {
-    candidates.sort_unstable_by_key(|c| c.row);
+    candidates.sort_unstable_by_key(|c| (c.row, c.point.y));
 }
 
 /// Tests a candidate by a walk along its zone's polygon.

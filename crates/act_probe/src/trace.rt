@@ -60,7 +60,8 @@ impl Trace {
 
     /// Before the first word.
     pub(crate) fn start() -> Trace
-        ensures { result.stage ≡ Rings }
+        ensures stage { result.stage ≡ Rings }
+        ensures at { result.at ≡ 0 }
     {
         let origin = Point { x: 0, y: 0 };
         Trace {
