@@ -19,3 +19,4 @@ pub mod FinishFacts
 pub mod SweepFacts
 pub mod TraceFacts
 pub mod OrderFacts
+pub mod ResolveFacts

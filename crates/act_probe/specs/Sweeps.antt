@@ -16,6 +16,10 @@ abbrev pub RunsAscend : List Candidate → Type 0
 RunsAscend cs = (k : ℕ) (d : Candidate) → k + 1 < length cs → (slice_index_or cs (k + 1) d).row ≡ (slice_index_or cs k d).row
     → (slice_index_or cs k d).point.y ≤ℤ (slice_index_or cs (k + 1) d).point.y
 
+-- the chains of the candidates between two places begin at one row
+abbrev pub IsRun : List Candidate → ℕ → ℕ → Type 0
+IsRun cs start end = (k : ℕ) (d : Candidate) → start ≤ k → k < end → (slice_index_or cs k d).row ≡ (slice_index_or cs start d).row
+
 -- the points lie on ascending rows of the grid
 abbrev pub Ascends : List Candidate → Type 0
 Ascends cs = (i j : ℕ) (d : Candidate) → i ≤ j → j < length cs → (slice_index_or cs i d).point.y ≤ℤ (slice_index_or cs j d).point.y

@@ -5,17 +5,16 @@ ghost use Rattle.std.specs.List.Sorted.{IsPermutation};
 ghost use Rattle.act_grid.specs.declared.Layers.{Layers};
 ghost use Rattle.act_grid.specs.declared.Point.{Point};
 ghost use Rattle.act_grid.specs.declared.Settings.{Settings};
-ghost use Rattle.act_geom.specs.Inside.{is_inside};
 ghost use Rattle.act_super.specs.declared.entry.State.{State};
 ghost use Rattle.act_super.specs.declared.entry.Zone.{Zone};
 ghost use Rattle.act_super.specs.Joins.{join};
 ghost use Rattle.act_probe.specs.Reads.{body_reads, reads_of};
-ghost use Rattle.act_probe.specs.Sweeps.{RunsAscend};
+ghost use Rattle.act_probe.specs.Sweeps.{Ascends, IsRun, RunsAscend};
 ghost use Rattle.act_probe.specs.Batches.{Asks, Gathers, Settles, answered, chosen, hit_of};
 
 use crate::buffers::{Candidate, Found, Hit};
-use crate::chain::test;
 use crate::words::Words;
+use crate::zones::sweep;
 use act_base::Steps;
 use std::sync::ledger::Ledger;
 
@@ -27,27 +26,45 @@ fn order(candidates: &mut Vec<Candidate>)
     candidates.sort_unstable_by_key(|c| (c.row, c.point.y));
 }
 
-/// Tests a candidate by a walk along its zone's polygon.
-fn resolve_one<W: Words, L: Ledger>(
+/// Where the candidates of a zone end that begin at a place.
+fn run_end(candidates: &[Candidate], start: usize) -> usize
+    requires { start < length candidates.now }
+    ensures more { start < result }
+    ensures within { result ≤ length candidates.now }
+    ensures rows { IsRun candidates.now start result }
+{
+    let row = candidates[start].row;
+    let mut end = start + 1;
+    while end < candidates.len() && candidates[end].row == row {
+        end += 1;
+    }
+    end
+}
+
+/// Tests the candidates of a zone.
+fn resolve_zone<W: Words, L: Ledger>(
     words: &mut W,
-    candidate: &mut Candidate,
+    run: &mut [Candidate],
     reads: &mut u64,
     steps: &mut Steps<L>,
 )
-    requires asks { (zone : Zone) × Asks (W.image words.old) zone candidate.old }
+    requires asks { (zones : ℕ → Zone) × All (λ c. Asks (W.image words.old) (zones c.slot) c) run.old }
+    requires some { 0 < length run.old }
+    requires rows { IsRun run.old 0 (length run.old) }
+    requires ascends { Ascends run.old }
     requires room { reads.old < 2 ^ 60 }
     ensures same { words.new ≡ words.old }
-    ensures odd { (zone : Zone) → Asks (W.image words.old) zone candidate.old → candidate.new ≡ record candidate.old { odd = is_inside zone.shape candidate.old.point } }
-    ensures few { (zone : Zone) → Asks (W.image words.old) zone candidate.old → reads.new ≤ reads.old + body_reads zone }
+    ensures odd { (zones : ℕ → Zone) → All (λ c. Asks (W.image words.old) (zones c.slot) c) run.old → run.new ≡ map (answered zones) run.old }
+    ensures few { (zones : ℕ → Zone) → All (λ c. Asks (W.image words.old) (zones c.slot) c) run.old
+        → reads.new ≤ reads.old + sum_by (λ c. body_reads (zones c.slot)) run.old }
     ensures ticks { steps.new + reads.old ≡ steps.old + reads.new }
     ensures bound { reads.new ≤ reads.old + 699052 }
 {
-    let tested = test(words, candidate.row, candidate.head, candidate.point, steps);
-    candidate.odd = tested.inside;
-    *reads += tested.reads;
+    let first = run[0];
+    sweep(words, first.row, first.head, run, reads, steps);
 }
 
-/// Tests each candidate by a walk along its zone's polygon.
+/// Tests the candidates, zone by zone. Each zone's words are read once.
 fn resolve<W: Words, L: Ledger>(
     words: &mut W,
     candidates: &mut [Candidate],
@@ -55,6 +72,7 @@ fn resolve<W: Words, L: Ledger>(
     steps: &mut Steps<L>,
 )
     requires asks { (zones : ℕ → Zone) × All (λ c. Asks (W.image words.old) (zones c.slot) c) candidates.old }
+    requires ascends { RunsAscend candidates.old }
     requires room { reads.old + 699052 * length candidates.old < 2 ^ 60 }
     ensures same { words.new ≡ words.old }
     ensures odd { (zones : ℕ → Zone) → All (λ c. Asks (W.image words.old) (zones c.slot) c) candidates.old → candidates.new ≡ map (answered zones) candidates.old }
@@ -63,8 +81,11 @@ fn resolve<W: Words, L: Ledger>(
     ensures ticks { steps.new + reads.old ≡ steps.old + reads.new }
     ensures bound { reads.new ≤ reads.old + 699052 * length candidates.old }
 {
-    for candidate in candidates.iter_mut() {
-        resolve_one(words, candidate, reads, steps);
+    let mut start = 0;
+    while start < candidates.len() {
+        let end = run_end(candidates, start);
+        resolve_zone(words, &mut candidates[start..end], reads, steps);
+        start = end;
     }
 }
 

@@ -12,6 +12,9 @@ resolve-requires-clause-asks g c =
     let r = c.requires.gathers in
     rw c.deref_mut.ensures.value (zone_of r.4.mets, asks _ c.args.found.now r.4.mets r.4.holds c.order.new.candidates.items c.order.ensures.permutation)
 
+pub resolve-requires-clause-ascends : goal.resolve-requires-clause-ascends
+resolve-requires-clause-ascends g c = rw c.deref_mut.ensures.value c.order.ensures.ascends
+
 pub resolve-requires-clause-room : goal.resolve-requires-clause-room
 resolve-requires-clause-room g c =
     let r = c.requires.gathers in
