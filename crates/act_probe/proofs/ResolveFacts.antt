@@ -1,6 +1,6 @@
 -- The candidates of one zone among all candidates.
-use Rattle.std.proofs.Common.{◌≡◌, ℕ, zero, suc, ◌+◌, ◌-◌, ◌≤◌, ◌<◌, ◌++◌, refl, sym, ap, ◌∙◌, subst, arith, List, length, map, take, drop, get_or}
-use Rattle.std.specs.Prelude.{ℤ, ◌≤ℤ◌, sum_by}
+use Rattle.std.proofs.Common.{◌≡◌, ℕ, zero, suc, ◌+◌, ◌-◌, ◌≤◌, ◌<◌, ◌++◌, sym, ap, ◌∙◌, subst, arith, List, length, map, take, drop, get_or}
+use Rattle.std.specs.Prelude.{◌≤ℤ◌, sum_by}
 use Rattle.std.specs.List.{All}
 use Rattle.std.proofs.Math.Seq.{take-add}
 use Rattle.std.proofs.lemmas.Int.{ints}

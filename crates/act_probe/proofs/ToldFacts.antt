@@ -1,14 +1,12 @@
 -- The references that words and entries tell.
-use Rattle.std.proofs.Common.{◌≡◌, ℕ, ◌++◌, Bool, Option, Some, None, refl, sym, ap, ◌∙◌, List, [], ◌∷◌, append_assoc, drop}
+use Rattle.std.proofs.Common.{◌≡◌, ℕ, ◌++◌, Bool, Option, Some, None, sym, ap, ◌∙◌, List, [], ◌∷◌, append_assoc, drop}
 use Rattle.std.proofs.lemmas.Option.{same_Some}
 use Rattle.std.specs.Option.{option_to_list}
 use Rattle.act_base.specs.Sight.{Sight}
 use Rattle.act_entry.specs.declared.reference.Ref.{Ref}
-use Rattle.act_entry.specs.declared.entry.Entry.TheVariants as entry
 use Rattle.act_entry.specs.Lists.{pair_of}
 use Rattle.act_entry.proofs.ListFacts.{told}
 use Rattle.act_super.specs.declared.entry.Zone.{Zone}
-use Rattle.act_super.specs.Stands.{entry_for}
 use Rattle.act_probe.specs.Chains.{PairAt, RefsOf}
 use Rattle.act_probe.proofs.ChainFacts.{row_fits}
 
@@ -29,22 +27,3 @@ pub word_told : (x : Sight) (hit : Zone → Bool) (zones : List Zone) (all : Lis
     → pair_of word ≡ Some (a, b) → new ≡ old ++ (a ∷ option_to_list b) → new ++ drop 2 all ≡ old ++ all
 word_told x hit zones all word a b old new h at tells is =
     ap (λ (rs : List Ref). rs ++ drop 2 all) is ∙ append_assoc old (a ∷ option_to_list b) (drop 2 all) ∙ ap (λ (rs : List Ref). old ++ rs) (sym (front_refs x hit zones all word a b h at tells))
-
--- what the entries of one and of two references tell
-pub one_told : (refs : List Ref) (a : Ref) (row place : ℕ) → entry.One a ≡ entry_for refs row place → a ∷ [] ≡ refs
-one_told [] a row place is = cc
-one_told (b ∷ []) a row place is = cc
-one_told (b ∷ (c ∷ [])) a row place is = cc
-one_told (b ∷ (c ∷ (d ∷ refs))) a row place is = cc
-
-pub two_told : (refs : List Ref) (a b : Ref) (row place : ℕ) → entry.Two a b ≡ entry_for refs row place → a ∷ b ∷ [] ≡ refs
-two_told [] a b row place is = cc
-two_told (c ∷ []) a b row place is = cc
-two_told (c ∷ (d ∷ [])) a b row place is = cc
-two_told (c ∷ (d ∷ (e ∷ refs))) a b row place is = cc
-
-pub none_told : (refs : List Ref) (row place : ℕ) → entry.Empty ≡ entry_for refs row place → [] ≡ refs
-none_told [] row place is = refl
-none_told (c ∷ []) row place is = cc
-none_told (c ∷ (d ∷ [])) row place is = cc
-none_told (c ∷ (d ∷ (e ∷ refs))) row place is = cc

@@ -1,4 +1,4 @@
-use Rattle.std.proofs.Common.{ℕ, arith, get_or}
+use Rattle.std.proofs.Common.{arith}
 use Rattle.std.proofs.lemmas.List.Sums.{get_or-le-sum_by}
 use Rattle.act_probe.specs.declared.buffers.Candidate.{Candidate}
 use Rattle.act_probe.specs.Reads.{body_reads}

@@ -1,7 +1,6 @@
-use Rattle.std.proofs.Common.{◌≡◌, ◌≤◌, ◌<◌, ◌+◌, ◌∙◌, Bool, List, refl, sym, ap, arith, drop, get_or, length, true, false}
+use Rattle.std.proofs.Common.{◌+◌, ◌∙◌, refl, sym, ap, arith, drop, get_or}
 use Rattle.act_geom.specs.Body.{body_of}
 use Rattle.act_geom.specs.Inside.{is_inside}
-use Rattle.act_geom.proofs.WalkFacts.{not_at_end}
 use Rattle.act_probe.specs.declared.buffers.Candidate.{Candidate}
 use Rattle.act_probe.specs.Sweeps.{walk_of}
 use Rattle.act_probe.proofs.ChainFacts.{going, next_word, reads_few, second_row, short}
