@@ -7,6 +7,9 @@
 //! The layer above uses one contract: over words that stand for a state, `probe` gives exactly the
 //! ascending keys of the zones of the layers that the point is inside, within `reads_of` words.
 //!
+//! `probe_batch` answers many points together, with the pairs of the join: they go down in groups, and
+//! each zone's polygon is read once a batch for all its candidates.
+//!
 //! ```text
 //! let reads = probe(&mut words, root, p, Layers::all(), &mut keys, &mut steps);
 //! ```

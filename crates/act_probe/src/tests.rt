@@ -1,10 +1,11 @@
-//! A point of an image without zones.
+//! Points of an image without zones.
 
 ghost use Rattle.std.specs.Prelude.{◌≡◌, ℕ, ◌<◌, ◌∷◌, []};
 
-use crate::{Keys, Words, probe};
+use crate::{Buffers, Keys, Words, probe, probe_batch};
 use act_base::Steps;
-use act_grid::{Layers, Point};
+use act_grid::{Layers, NoMemory, Point};
+use std::alloc::Global;
 use std::marker::Brand;
 use std::sync::ledger::{Blank, Ledger};
 use std::test::Fail;
@@ -38,5 +39,32 @@ fn no_zones(rt: HostRuntime) -> Result<(), Fail> {
     let (keys, reads) = found::<Brand>(Blank::new(1), Point { x: 0, y: 0 });
     assert_eq!(rt; keys, 0);
     assert_eq!(rt; reads, 1);
+    Ok(())
+}
+
+/// How many pairs twenty points have, and how many words are read.
+fn joined<L: Ledger>(alloc: Global, blank: Blank) -> Result<(usize, u64), NoMemory>
+    requires name { blank.name ≡ L.name }
+    requires parts { (blank.parts ≡ L.parts) × (0 < L.parts) }
+{
+    let mut steps = Steps::<L>::new(blank);
+    let mut buffers = Buffers::new(alloc);
+    let points = [Point { x: 3, y: -4 }; 20];
+    let reads = probe_batch(
+        &mut Zeros,
+        1,
+        &points,
+        Layers::all(),
+        &mut buffers,
+        &mut steps,
+    )?;
+    Ok((buffers.hits().len(), reads))
+}
+
+#[test]
+fn no_pairs(rt: HostRuntime) -> Result<(), Fail> {
+    let (pairs, reads) = joined::<Brand>(rt.alloc(), Blank::new(1))?;
+    assert_eq!(rt; pairs, 0);
+    assert_eq!(rt; reads, 20);
     Ok(())
 }
