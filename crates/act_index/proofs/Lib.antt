@@ -2,6 +2,7 @@ pub mod Histories
 pub mod Writing
 pub mod Carrying
 pub mod Carried
+pub mod Training
 pub mod Opening
 pub mod Joining
 pub mod Answering

@@ -1,8 +1,10 @@
 -- What the writer's calls promise.
-use Rattle.std.specs.Prelude.{◌≡◌, ℕ, ◌+◌, ◌*◌, ◌^◌, ◌<◌, ◌≤◌, List, [], ◌∷◌, ◌++◌, Contains, Option, Some, None}
+use Rattle.std.specs.Prelude.{length, ◌≢◌, ◌≡◌, ℕ, ◌+◌, ◌*◌, ◌^◌, ◌<◌, ◌≤◌, List, [], ◌∷◌, ◌++◌, Contains, Option, Some, None}
 use lib.ListN.{get_elem?}
 use mathlib.Core.Option.{some}
+use Rattle.act_grid.specs.Cell.{Address}
 use Rattle.act_super.specs.declared.entry.Entry.{Entry}
+use Rattle.act_super.specs.declared.entry.Entry.TheVariants as entry
 use Rattle.act_super.specs.declared.verdict.Verdict.{Verdict}
 use Rattle.act_super.specs.declared.verdict.Verdict.TheVariants as verdict
 use Rattle.act_super.specs.Sizes.{size_of}
@@ -81,3 +83,14 @@ cause_of verdict.Same = Same
 cause_of (verdict.Refs need) = Refs need
 cause_of (verdict.Rows need limit) = Rows need limit
 cause_of verdict.NoMemory = NoMemory
+
+-- what a training answers that trains these cells: with none of them nothing was changed
+pub record IsTrained (w w' : Writing) (cells : List Address) (done : Done) : Type 0 where
+  pub answered : IsDone w' (length cells) done
+  pub grown : 0 < length cells → IsGrown w w' (entry.Train cells)
+  pub left : length cells ≡ 0 → IsLeft w w'
+
+-- why a training was refused that would train these cells: it is refused where there are some, want of memory aside
+pub record IsUntrained (w w' : Writing) (cells : List Address) (why : Refused) : Type 0 where
+  pub refused : IsRefused w w' (entry.Train cells) why
+  pub some_cells : why ≢ NoMemory → 0 < length cells

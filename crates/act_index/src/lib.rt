@@ -29,6 +29,7 @@ mod reader;
 mod tests;
 #[cfg(test)]
 mod thread_tests;
+mod train;
 mod writer;
 
 pub use changes::{Applied, Change, Changes};

@@ -26,13 +26,13 @@ pub type Note = act_rows::Note<Zones>;
 /// The writer of an index. There is one for each.
 #[derive(Drop)]
 pub struct Writer {
-    alloc: Global,
-    master: Master<Zones>,
-    plain: Super,
-    image: Image,
-    pool: Pool,
+    pub(crate) alloc: Global,
+    pub(crate) master: Master<Zones>,
+    pub(crate) plain: Super,
+    pub(crate) image: Image,
+    pub(crate) pool: Pool,
     // How many adds, drops and replaces the history has.
-    updates: u64,
+    pub(crate) updates: u64,
 }
 
 impl Model for Writer {
