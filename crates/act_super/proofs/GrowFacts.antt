@@ -26,7 +26,7 @@ pub record Bound (k : ℕ) (t u : Tree) (x : ℕ) : Type 0 where
   pub rows : inner k u ≤ inner k t + nodes
 
 -- four parts one after the other
-four_packs : (k p q r v : ℕ) (a b c d a' b' c' d' : Tree)
+pub four_packs : (k p q r v : ℕ) (a b c d a' b' c' d' : Tree)
     → ((s : Pack) → Before (put_tree k s a') (later p (put_tree k s a)))
     → ((s : Pack) → Before (put_tree k s b') (later q (put_tree k s b)))
     → ((s : Pack) → Before (put_tree k s c') (later r (put_tree k s c)))
@@ -47,7 +47,7 @@ four_packs k p q r v a b c d a' b' c' d' f g h i s =
         let e' = rw (tree_shift k m t u) at e in
         before_trans _ _ _ (f s) (before_trans _ _ _ e' (join m n (put_tree k t u)))
 
-rows_before : (s t : Pack) → Before s t → s.rows ≤ t.rows
+pub rows_before : (s t : Pack) → Before s t → s.rows ≤ t.rows
 rows_before s t (SameRow a b) = omega arith
 rows_before s t (EarlierRow a) = omega arith
 

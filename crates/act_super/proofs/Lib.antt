@@ -24,6 +24,7 @@ pub mod RoomFacts
 pub mod PackFacts
 pub mod GrowFacts
 pub mod TrainFacts
+pub mod LossFacts
 pub mod CountFacts
 pub mod StepFacts
 pub mod GrownFacts

@@ -1,13 +1,13 @@
 -- Trained cells are looked up by their ids.
 use Rattle.std.proofs.Common.{◌≡◌, ℕ, ◌+◌, ◌<◌, ◌≤◌, refl, sym, subst, ap, ◌∙◌, ◌⊎◌, inl, inr, arith, eq-eqb, Bool, true, false, ◌&&◌, ◌||◌, List, [], ◌∷◌, ◌++◌, length, map, take, get_or}
 use Rattle.std.proofs.lemmas.Bool.{cases_lt}
-use Rattle.std.specs.Prelude.{All, ◌==◌, suc}
+use Rattle.std.specs.Prelude.{All, ◌==◌, insert, suc}
 use Rattle.std.specs.List.{list_any}
 use Rattle.std.specs.List.Sorted.{IsNonDecreasing, IsPermutation}
-use Rattle.std.proofs.lemmas.List.Elements.{All-head, All-more, All-tail}
+use Rattle.std.proofs.lemmas.List.Elements.{All-head, All-more, All-push, All-tail}
 use Rattle.std.proofs.lemmas.List.Folds.{list_any_at}
-use Rattle.std.proofs.lemmas.List.{length-map, map-append, take_more}
-use Rattle.std.proofs.lemmas.List.Sorted.{length_permutation, list_any-IsPermutation}
+use Rattle.std.proofs.lemmas.List.{get_or_default, length-map, map-append, take_more}
+use Rattle.std.proofs.lemmas.List.Sorted.{IsNonDecreasingBy-insert, IsPermutation-insert, IsPermutation-push_more, length_permutation, list_any-IsPermutation}
 use Rattle.act_grid.specs.Cell.{Address, IsCell, id_of}
 use Rattle.act_grid.proofs.IdFacts.{same_id}
 use Rattle.act_super.specs.Grounds.{is_among, same_cell}
@@ -103,3 +103,21 @@ indexed_all cells i all ids sorted most e f each same rises = record {
 
 pub none_when : (n : ℕ) (b : Bool) → b ≡ (n == 0) → b ≡ true → n ≡ 0
 none_when n b e f = equal n 0 (sym e ∙ f)
+
+-- one more cell, with its id at its place
+pub indexed_more : (cells : List Address) (ids : List ℕ) (cell : Address) (id at : ℕ) → IsIndexed cells ids → IsCell cell → id ≡ id_of cell → at ≤ length ids
+    → ((k : ℕ) → k < at → get_or ids k 0 ≤ id) → ((k : ℕ) → at ≤ k → k < length ids → id ≤ get_or ids k 0) → IsIndexed (cells ++ (cell ∷ [])) (insert ids at id)
+indexed_more cells ids cell id at index is e within low high = record {
+  each = All-push IsCell cells cell index.each is;
+  same = rw (map-append id_of cells (cell ∷ []), e) (IsPermutation-push_more (map id_of cells) ids (insert ids at (id_of cell)) (id_of cell) index.same (IsPermutation-insert ids at (id_of cell)));
+  rises = IsNonDecreasingBy-insert (λ x. x) ids at id index.rises within
+      (λ k d less. omega (arith, low k less, get_or_default ids k d 0 (omega (arith, less, within))))
+      (λ k d least less. omega (arith, high k least less, get_or_default ids k d 0 less));
+}
+
+pub indexed_pushed : (cells more : List Address) (ids seen longer : List ℕ) (cell : Address) (id at : ℕ) → IsIndexed cells ids → seen ≡ ids → more ≡ cells ++ (cell ∷ []) → longer ≡ insert ids at id
+    → IsCell cell → id ≡ id_of cell → at ≤ length seen → ((k : ℕ) → k < at → get_or seen k 0 ≤ id) → ((k : ℕ) → at ≤ k → k < length seen → id ≤ get_or seen k 0) → IsIndexed more longer
+indexed_pushed cells more ids seen longer cell id at index s m l is e within low high =
+    rw (m, l)
+    (indexed_more cells ids cell id at index is e (subst (λ xs. at ≤ length xs) s within) (subst (λ xs. (k : ℕ) → k < at → get_or xs k 0 ≤ id) s low)
+    (subst (λ xs. (k : ℕ) → at ≤ k → k < length xs → id ≤ get_or xs k 0) s high))

@@ -12,11 +12,13 @@ use Rattle.act_super.specs.declared.entry.Zone.{Zone}
 use Rattle.act_super.specs.Sizes.{rows_with}
 use Rattle.act_super.specs.States.{IsFor}
 use Rattle.act_super.specs.declared.standing.Standing.{Standing}
-use Rattle.act_super.specs.Sound.{IsFit}
+use Rattle.act_super.specs.Losses.{AreAmong}
+use Rattle.act_super.specs.Sound.{IsFit, IsStart}
 use Rattle.act_super.specs.Standings.{standing_rows}
 use Rattle.act_super.specs.Training.{fit, most_trained}
 use Rattle.act_super.proofs.CountFacts.{rows_bound}
 use Rattle.act_super.proofs.FitFacts.{kept_steps}
+use Rattle.act_super.proofs.LossFacts.{all_taken, each_taken}
 use Rattle.act_super.proofs.StateFacts.{IsHeld, held_fit, held_rows, longer_list, prepared_training}
 
 pub length_taken : (cells taken : List Address) (n : ℕ) → taken ≡ take n cells → n ≤ length cells → length taken ≡ n
@@ -66,6 +68,28 @@ fit_whole limit standings cells taken plain sure is room few whole same =
     fit_found limit standings cells taken (length cells) (same ∙ sym (take_all (length cells) cells (omega arith))) (omega arith) (omega (arith, whole, few))
     (λ m most. bound_steps limit standings cells plain sure is room m (omega (arith, whole, most))) (inl refl)
 
+-- all the cells, where each list of the first of them fits
+pub fit_all : (limit : ℕ) (standings : List Standing) (none cells : List Address) → none ≡ [] → length cells ≤ most_trained
+    → ((some : List Address) → AreAmong none some → AreAmong some cells → standing_rows some standings ≤ limit) → IsFit limit standings cells cells
+fit_all limit standings none cells e few more =
+    fit_found limit standings cells cells (length cells) (sym (take_all (length cells) cells (omega arith))) (omega arith) few (λ m most. each_taken limit standings none cells e more m) (inl refl)
+
+-- the same for the list that was taken
+pub fit_same : (limit : ℕ) (standings zones : List Standing) (cells taken : List Address) → zones ≡ standings → taken ≡ cells → IsFit limit zones cells cells → IsFit limit standings cells taken
+fit_same limit standings zones cells taken z t f = rw t (subst (λ zs. IsFit limit zs cells cells) z f)
+
+-- the first cells, with what is known of them
+pub start_of : (limit : ℕ) (standings : List Standing) (cells taken : List Address) (n : ℕ) → taken ≡ take n cells → n ≤ length cells → n ≤ most_trained
+    → ((m : ℕ) → m ≤ n → standing_rows (take m cells) standings ≤ limit) → IsStart limit standings cells taken
+start_of limit standings cells taken n e within few each =
+    let l = length_taken cells taken n e within in
+    record {
+      first = e ∙ ap (λ k. take k cells) (sym l);
+      within = omega (arith, l, within);
+      few = omega (arith, l, few);
+      each = λ m most. each m (omega (arith, l, most));
+    }
+
 -- what surely fits: the cells that did so, and so many that there is room for all that they may add
 pub sure_steps : (settings : Settings) (zones : List Zone) (keys : List ℕ) (standings : List Standing) (old more : List Address) (count sure : ℕ) → IsHeld settings zones keys standings
     → fit settings zones old ≡ old → standing_rows [] standings + 5 * count ≤ settings.rows → sure ≤ max count (length old)
@@ -98,3 +122,11 @@ trained_by_code settings state keys standings cells taken known size plain h f k
       ap (λ n. entry.Train (drop n taken)) k ∙ ap (λ xs. entry.Train (drop (length state.trained) xs)) (sym same),
       subst (λ n. IsFor settings state (record { entry = entry.Train (drop n taken); trained = taken; size = size; plain = plain; cells = settings.cells })) (sym k) done,
     )
+
+-- one portion more, each list on the way to which fits
+pub portion_fits : (limit : ℕ) (standings : List Standing) (cells old : List Address) (count next : ℕ) → count ≤ next → old ≡ take count cells
+    → ((n : ℕ) → n ≤ count → standing_rows (take n cells) standings ≤ limit)
+    → ((some : List Address) → AreAmong old some → AreAmong some (take next cells) → standing_rows some standings ≤ limit)
+    → (n : ℕ) → n ≤ next → standing_rows (take n cells) standings ≤ limit
+portion_fits limit standings cells old count next order e each more =
+    all_taken limit standings cells count next order each (subst (λ xs. (some : List Address) → AreAmong xs some → AreAmong some (take next cells) → standing_rows some standings ≤ limit) e more)

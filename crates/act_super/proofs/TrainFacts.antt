@@ -34,7 +34,7 @@ any_mono p q (x ∷ items) h e = one (p x) (q x) (list_any p items) (list_any q 
     one : (a b c d : Bool) → (a ≡ true → b ≡ true) → (c ≡ true → d ≡ true) → (a || c) ≡ true → (b || d) ≡ true
     one a b c d h k e = grind arith
 
-fewer_below : {X : Type 0} (g : Ground X) → GoesDown g → (items : List X) (c : Address) (q : ℕ) → IsCell c → c.level < 30 → q < 4 → length (on g items (child_of c q)) ≤ length (on g items c)
+pub fewer_below : {X : Type 0} (g : Ground X) → GoesDown g → (items : List X) (c : Address) (q : ℕ) → IsCell c → c.level < 30 → q < 4 → length (on g items (child_of c q)) ≤ length (on g items c)
 fewer_below g down items c q cell low four = let e = length_on g (on g items c) (child_of c q) in rw (on_below g down items c q cell low four) at e
 
 pub asks_more : {X : Type 0} (g : Ground X) (some all : Address → Bool) → Fewer some all → (c : Address) (items : List X)

@@ -10,6 +10,7 @@ pub mod Shifts
 pub mod Growths
 pub mod Sizes
 pub mod Training
+pub mod Losses
 pub mod Choices
 pub mod Frames
 pub mod Standings

@@ -45,6 +45,13 @@ lone (Some r) = r.now ∷ []
 abbrev pub spliced : List Standing → ℕ → Option (Bor Standing) → ℕ → List Standing
 spliced standings from new to = take from standings ++ lone new ++ drop to standings
 
+-- of these standings and cells the second are the first of them, and as many fit as they are, at each step
+pub record IsStart (limit : ℕ) (standings : List Standing) (cells taken : List Address) : Type 0 where
+  pub first : taken ≡ take (length taken) cells
+  pub within : length taken ≤ length cells
+  pub few : length taken ≤ most_trained
+  pub each : (n : ℕ) → n ≤ length taken → standing_rows (take n cells) standings ≤ limit
+
 -- of these standings and cells the second are the first of them up to the first one that doesn't fit
 pub record IsFit (limit : ℕ) (standings : List Standing) (cells taken : List Address) : Type 0 where
   pub first : taken ≡ take (length taken) cells

@@ -32,6 +32,7 @@ mod grow;
 mod laws;
 mod leaf;
 mod lists;
+mod lost;
 mod marks;
 mod narrow;
 mod next;

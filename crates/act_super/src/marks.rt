@@ -1,6 +1,6 @@
 //! Trained cells.
 
-ghost use Rattle.std.specs.Prelude.{◌≡◌};
+ghost use Rattle.std.specs.Prelude.{◌≡◌, ◌<◌, ◌≤◌, ℕ, length, slice_index};
 ghost use Rattle.std.specs.List.Sorted.{IsNonDecreasing};
 ghost use Rattle.act_grid.specs.Cell.{IsCell, id_of};
 ghost use Rattle.act_super.specs.Places.{IsPlaceOf};
@@ -32,6 +32,7 @@ impl Model for Marks {
 impl Marks {
     ghost use Rattle.std.specs.Prelude.{◌≡◌, [], IfOk};
     ghost use Rattle.act_super.specs.Grounds.{is_among};
+    ghost use Rattle.act_super.specs.Shifts.{added};
 
     /// No cells. It takes no memory.
     pub fn new(alloc: Global) -> Marks
@@ -56,6 +57,23 @@ impl Marks {
         }
         ids.sort()?;
         Ok(Marks { cells: all, ids })
+    }
+
+    /// One more cell behind the others. It moves the ids behind its own, and takes memory where there is no room left.
+    pub fn push(&mut self, cell: Cell) -> Result<(), AllocError>
+        ensures { IfOk result (λ done. self.new ≡ added self.old cell) }
+    {
+        self.cells.reserve(1)?;
+        self.ids.reserve(1)?;
+        let id = id_in(cell);
+        let at = spot_in(&self.ids, id);
+        let Ok(()) = self.cells.push(cell) else {
+            unreachable!()
+        };
+        let Ok(()) = self.ids.insert(at, id) else {
+            unreachable!()
+        };
+        Ok(())
     }
 
     /// The cells, for reading.
@@ -86,6 +104,19 @@ fn place_in(ids: &[u64], id: u64) -> Result<usize, usize>
     ensures { IsPlaceOf id ids.now result }
 {
     ids.binary_search(&id)
+}
+
+// A place where the id may stand.
+fn spot_in(ids: &[u64], id: u64) -> usize
+    requires { IsNonDecreasing ids.now }
+    ensures within { result ≤ length ids.now }
+    ensures below { (k : ℕ) → k < result → slice_index ids.now k ≤ id }
+    ensures above { (k : ℕ) → result ≤ k → k < length ids.now → id ≤ slice_index ids.now k }
+{
+    match place_in(ids, id) {
+        Ok(at) => at,
+        Err(at) => at,
+    }
 }
 
 // The id of the cell.
