@@ -58,32 +58,32 @@ past : (a b c : ℤ) → a ≤ℤ b → b ≤ℤ c → int_lt c a ≡ false
 past a b c h k = grind (arith, ints)
 
 -- no edge counts for a point below the box, and none for one at its top or higher
-counts_low : (f : Hull) (p : Point) (e : Edge) → int_lt p.y f.lo.y ≡ true → IsEdgeIn f e → counts p e ≡ false
+pub counts_low : (f : Hull) (p : Point) (e : Edge) → int_lt p.y f.lo.y ≡ true → IsEdgeIn f e → counts p e ≡ false
 counts_low f p e h i =
     let a : int_lt p.y e.a.y ≡ true = below p.y f.lo.y e.a.y h i.start.south in
     let b : int_lt p.y e.b.y ≡ true = below p.y f.lo.y e.b.y h i.end.south in
     rw (a, b) refl
 
-counts_high : (f : Hull) (p : Point) (e : Edge) → int_lt f.hi.y p.y ≡ true → IsEdgeIn f e → counts p e ≡ false
+pub counts_high : (f : Hull) (p : Point) (e : Edge) → int_lt f.hi.y p.y ≡ true → IsEdgeIn f e → counts p e ≡ false
 counts_high f p e h i =
     let top : f.hi.y ≤ℤ p.y = at_most f.hi.y p.y h in
     let a : int_lt p.y e.a.y ≡ false = past e.a.y f.hi.y p.y i.start.north top in
     let b : int_lt p.y e.b.y ≡ false = past e.b.y f.hi.y p.y i.end.north top in
     rw (a, b) refl
 
-odd_none : (g : Edge → Bool) (edges : List Edge) → All (λ e. g e ≡ false) edges → is_odd_by g edges ≡ false
+pub odd_none : (g : Edge → Bool) (edges : List Edge) → All (λ e. g e ≡ false) edges → is_odd_by g edges ≡ false
 odd_none g [] all = refl
 odd_none g (e ∷ edges) all =
     let here : g e ≡ false = All-head (λ e. g e ≡ false) e edges all in
     rw here (odd_none g edges (All-tail (λ e. g e ≡ false) e edges all))
 
-any_none : (g : Edge → Bool) (edges : List Edge) → All (λ e. g e ≡ false) edges → list_any g edges ≡ false
+pub any_none : (g : Edge → Bool) (edges : List Edge) → All (λ e. g e ≡ false) edges → list_any g edges ≡ false
 any_none g [] all = refl
 any_none g (e ∷ edges) all =
     let here : g e ≡ false = All-head (λ e. g e ≡ false) e edges all in
     rw here (any_none g edges (All-tail (λ e. g e ≡ false) e edges all))
 
-each : (P Q : Edge → Type 0) (edges : List Edge) → ((e : Edge) → P e → Q e) → All P edges → All Q edges
+pub each : (P Q : Edge → Type 0) (edges : List Edge) → ((e : Edge) → P e → Q e) → All P edges → All Q edges
 each P Q edges h all n d l = h _ (all n d l)
 
 -- on one side of the box
@@ -98,7 +98,7 @@ meets_none : (w1 w2 e1 e2 s1 s2 n1 n2 rest : Bool) → (((w1 && w2) || (e1 && e2
     → (((not (w1 && w2) && not (e1 && e2)) && (not (s1 && s2) && not (n1 && n2))) && rest) ≡ false
 meets_none w1 w2 e1 e2 s1 s2 n1 n2 rest h = grind arith
 
-touch_apart : (f h : Hull) (e : Edge) → is_apart f h ≡ true → IsEdgeIn f e → touches_hull h e ≡ false
+pub touch_apart : (f h : Hull) (e : Edge) → is_apart f h ≡ true → IsEdgeIn f e → touches_hull h e ≡ false
 touch_apart f h e a i =
     meets_none (int_lt e.a.x h.lo.x) (int_lt e.b.x h.lo.x) (int_lt h.hi.x e.a.x) (int_lt h.hi.x e.b.x) (int_lt e.a.y h.lo.y) (int_lt e.b.y h.lo.y) (int_lt h.hi.y e.a.y) (int_lt h.hi.y e.b.y) (not (all_left h e.a e.b || all_left h e.b e.a))
     (by_side (sides (int_lt f.hi.x h.lo.x) (int_lt h.hi.x f.lo.x) (int_lt f.hi.y h.lo.y) (int_lt h.hi.y f.lo.y) a))
@@ -221,7 +221,7 @@ wider_more f g h a b = record {
   north = through _ _ _ a.north b.north;
 }
 
-wider_in : (f g : Hull) (p : Point) → IsWider f g → IsIn f p → IsIn g p
+pub wider_in : (f g : Hull) (p : Point) → IsWider f g → IsIn f p → IsIn g p
 wider_in f g p w i = record {
   west = through _ _ _ w.west i.west;
   east = through _ _ _ i.east w.east;

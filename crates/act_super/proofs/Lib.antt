@@ -18,6 +18,7 @@ pub mod RefFacts
 pub mod HistoryFacts
 pub mod LawFacts
 pub mod BlankFacts
+pub mod BlockFacts
 pub mod AddFacts
 pub mod ShiftFacts
 pub mod RoomFacts

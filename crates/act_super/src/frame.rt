@@ -38,8 +38,8 @@ fn with_ring(frame: Hull, ring: &[Point]) -> Hull
     wide
 }
 
-// The least box around a box and a point.
-fn with_point(frame: Hull, p: Point) -> Hull
+/// The least box around a box and a point.
+pub(crate) fn with_point(frame: Hull, p: Point) -> Hull
     ensures wider { IsWider frame result }
     ensures holds { IsIn result p }
 {

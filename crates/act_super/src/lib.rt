@@ -22,6 +22,7 @@
 #![tactic(auto)]
 
 mod after;
+mod blocks;
 mod both;
 mod chosen;
 mod entry;

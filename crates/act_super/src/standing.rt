@@ -2,28 +2,34 @@
 
 ghost use Rattle.std.specs.Prelude.{◌≡◌, ◌≤◌};
 ghost use Rattle.act_grid.specs.Cell.{hull_of};
+ghost use Rattle.act_geom.specs.Edges.{edges_of};
 ghost use Rattle.act_geom.specs.Inside.{is_inside};
 ghost use Rattle.act_cover.specs.Covering.{class_at};
 ghost use Rattle.act_cover.specs.Level.{level_of};
 ghost use Rattle.act_super.specs.Frames.{IsFrame};
 
+use crate::blocks::Blocks;
 use crate::frame::{frame_of, is_apart, is_around};
 use act_cover::cover_level;
-use act_geom::{Class, Shape, class_of, inside};
+use act_geom::{Class, Shape};
 use act_grid::{Cell, Hull, Point};
 
-/// A zone's shape, with the Level of its covering and a box around its vertices.
+/// A zone's shape, with the Level of its covering, a box around its vertices, and its edges in blocks.
 #[derive(Drop)]
 pub(crate) struct Standing {
     pub shape: Shape,
     pub level: u32,
     pub frame: Hull,
+    blocks: Blocks,
     ghost framed: { IsFrame frame shape },
+    ghost parted: { blocks ≡ edges_of shape },
 }
 
 impl Standing {
-    /// The shape with what is kept beside it, for a budget of so many cells. It costs what `cover_level` does.
-    pub fn new(shape: Shape, cells: u32) -> Standing
+    /// The shape with what is kept beside it, its edges in blocks being given, for a budget of so many cells. It costs
+    /// what `cover_level` does.
+    pub fn new(shape: Shape, blocks: Blocks, cells: u32) -> Standing
+        requires blocks { blocks ≡ edges_of shape }
         requires least { 1 ≤ cells }
         requires most { cells ≤ 1024 }
         ensures shape { result.shape ≡ shape }
@@ -35,11 +41,12 @@ impl Standing {
             shape,
             level,
             frame,
+            blocks,
         }
     }
 
     /// How the shape lies on the cell, whose hull is given. A cell apart from the box or around it takes constant time,
-    /// and any other one a look at each edge at most twice.
+    /// and any other one a look at the blocks of edges, and at the edges in those near the cell.
     #[inline]
     pub fn class_on(&self, cell: Cell, hull: Hull) -> Class
         requires { hull ≡ hull_of cell }
@@ -51,7 +58,7 @@ impl Standing {
         if is_around(hull, self.frame) && self.shape.vertices() > 0 {
             return Class::Mixed;
         }
-        class_of(&self.shape, cell)
+        self.blocks.class_on(hull)
     }
 
     /// Whether the point is inside the shape. A point outside of the box takes constant time.
@@ -62,6 +69,6 @@ impl Standing {
         if is_apart(self.frame, Hull { lo: p, hi: p }) {
             return false;
         }
-        inside(&self.shape, p)
+        self.blocks.hold(p)
     }
 }

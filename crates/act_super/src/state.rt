@@ -3,6 +3,7 @@
 ghost use Rattle.std.specs.Prelude.{◌≡◌};
 ghost use Rattle.act_super.specs.declared.verdict.Verdict.TheVariants.{NoMemory as Unfed};
 
+use crate::blocks::Blocks;
 use crate::chosen::chosen_in;
 use crate::fit::{fit_in, longest, sure_count};
 use crate::gather::gathered;
@@ -106,8 +107,11 @@ impl Super {
         let Ok(()) = self.standings.reserve(1) else {
             return Err(unfed(shape));
         };
+        let Ok(blocks) = Blocks::of(alloc, &shape) else {
+            return Err(unfed(shape));
+        };
         let cells = self.settings.cells;
-        let zone = Standing::new(shape, cells);
+        let zone = Standing::new(shape, blocks, cells);
         let room = room_in(
             alloc,
             &self.standings,
@@ -209,8 +213,11 @@ impl Super {
                 shape,
             });
         }
+        let Ok(blocks) = Blocks::of(alloc, &shape) else {
+            return Err(unfed(shape));
+        };
         let cells = self.settings.cells;
-        let zone = Standing::new(shape, cells);
+        let zone = Standing::new(shape, blocks, cells);
         let room = room_in(
             alloc,
             &self.standings,

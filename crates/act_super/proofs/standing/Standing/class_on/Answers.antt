@@ -1,5 +1,6 @@
 use Rattle.std.proofs.Common.{◌∙◌, sym, ap, arith, ◌<◌}
 use Rattle.act_geom.specs.Rings.{vertices_of}
+use Rattle.act_super.specs.Blocks.{class_by}
 use Rattle.act_super.specs.Frames.{is_apart, is_around}
 use Rattle.act_super.proofs.AroundFacts.{around_mixed}
 use Rattle.act_super.proofs.FrameFacts.{frame_outside, class_is}
@@ -11,7 +12,7 @@ returns-then-is_apart c =
     (ap (is_apart c.args.self.now.frame) (sym c.requires) ∙ sym c.is_apart.ensures ∙ c.if-is_apart.true))
 
 pub returns : goal.returns
-returns c = c.class_of.ensures ∙ class_is c.args.self.now.shape c.args.cell
+returns c = c.class_on.ensures ∙ (λ i. class_by (c.args.self.now.parted i) (c.requires i)) ∙ class_is c.args.self.now.shape c.args.cell
 
 pub returns-then-vertices-gt0 : goal.returns-then-vertices-gt0
 returns-then-vertices-gt0 c =
