@@ -55,6 +55,7 @@ pub use laws::{
     blank_image_stands, leaf_holds_point, references_answer, training_changes_no_zone,
     training_is_bounded,
 };
+pub use marks::Marks;
 pub use next::Next;
 pub use node::Node;
 pub use refs::{ZoneRef, ZoneRefs};

@@ -9,9 +9,9 @@ use act_grid::Cell;
 use std::alloc::{AllocError, Global};
 use std::marker::Model;
 
-/// The trained cells, in the order of their training. Contracts see the list.
+/// Cells in a given order, as the trained ones in the order of their training, looked up by their ids. Contracts see the list.
 #[derive(Drop)]
-pub(crate) struct Marks {
+pub struct Marks {
     cells: Vec<Cell>,
     // The ids of the cells in ascending order.
     ids: Vec<u64>,
@@ -83,7 +83,7 @@ impl Marks {
         &self.cells
     }
 
-    /// Whether the cell is trained. Where some are, it takes time logarithmic in their number.
+    /// Whether the cell is one of them. Where there are some, it takes time logarithmic in their number.
     pub fn has(&self, cell: Cell) -> bool
         ensures { result ≡ is_among self.now cell }
     {

@@ -2,7 +2,8 @@
 
 use crate::marks::Marks;
 use crate::standing::Standing;
-use act_geom::Shape;
+use act_geom::{Class, Shape};
+use act_grid::Cell;
 use std::marker::Model;
 
 #[derive(Drop)]
@@ -45,6 +46,7 @@ impl Model for Next {
 impl Next {
     ghost use Rattle.std.specs.Prelude.{◌≡◌, Option, Some, None};
     ghost use Rattle.std.specs.Option.{option_copied};
+    ghost use Rattle.act_super.specs.Changes.{class_given};
     ghost use Rattle.act_super.specs.States.{key_of, shape_of, split_of};
 
     /// The Size of the state after the change.
@@ -73,6 +75,26 @@ impl Next {
         match &self.change {
             Change::Train(from) => (self.marks.as_slice().len() - *from) as u32,
             _ => 0,
+        }
+    }
+
+    /// The trained cells of the state after the change, in the order of their training.
+    pub fn trained(&self) -> &[Cell]
+        ensures { result.now ≡ self.now.trained }
+    {
+        self.marks.as_slice()
+    }
+
+    /// How the shape that is added, or that replaces another, lies on the cell. None comes exactly where there is none. A
+    /// cell apart from the box of the shape or around it takes constant time.
+    pub fn class_on(&self, cell: Cell) -> Option<Class>
+        ensures { result ≡ class_given (shape_of self.now.entry) cell }
+    {
+        match &self.change {
+            Change::Add(_, zone) => Some(zone.class_on(cell, cell.hull())),
+            Change::DropZone(_) => None,
+            Change::Replace(_, zone) => Some(zone.class_on(cell, cell.hull())),
+            Change::Train(_) => None,
         }
     }
 

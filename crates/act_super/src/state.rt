@@ -17,7 +17,7 @@ use crate::search::place;
 use crate::standing::Standing;
 use crate::verdict::{TurnedAdd, Verdict};
 use act_cover::Cells;
-use act_geom::Shape;
+use act_geom::{Class, Shape};
 use act_grid::{Cell, NoMemory, Point, Settings};
 use std::alloc::Global;
 use std::marker::Model;
@@ -64,6 +64,7 @@ fn unfed(shape: Shape) -> TurnedAdd
 
 impl Super {
     ghost use Rattle.std.specs.Prelude.{◌≡◌, ◌⊎◌, ◌<◌, ◌≤◌, ◌++◌, IfOk, IfErr, Some, drop, length, slice_index_or, slice_get};
+    ghost use Rattle.act_cover.specs.Covering.{class_at};
     ghost use Rattle.act_cover.specs.Level.{level_of};
     ghost use Rattle.act_geom.specs.Inside.{is_inside};
     ghost use Rattle.act_super.specs.Nodes.{node_children, node_leaves};
@@ -450,6 +451,15 @@ impl Super {
         ensures { result.now ≡ zone_shape_at self.now.state.zones i }
     {
         &self.standings[i as usize].shape
+    }
+
+    /// How the shape of a zone, counted from 0 by ascending key, lies on the cell. A cell apart from the zone's box or
+    /// around it takes constant time.
+    pub fn zone_class(&self, i: u32, cell: Cell) -> Class
+        requires { i < length self.now.state.zones }
+        ensures { result ≡ class_at (zone_shape_at self.now.state.zones i) cell }
+    {
+        self.standings[i as usize].class_on(cell, cell.hull())
     }
 
     /// Whether the point is inside the shape of a zone, counted from 0 by ascending key. A point outside
