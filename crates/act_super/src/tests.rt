@@ -3,7 +3,7 @@
 ghost use Rattle.std.specs.Prelude.{◌≤◌, length};
 
 use crate::{Super, Verdict, ZoneRef};
-use act_geom::Shape;
+use act_geom::{Class, Shape};
 use act_grid::{Cell, Point, Settings};
 use std::alloc::Global;
 use std::test::Fail;
@@ -104,6 +104,8 @@ fn changes_tell_what_they_change(rt: HostRuntime) -> Result<(), Fail> {
     };
     assert_eq!(rt; (next.key(), next.size()), (Some(7), 8));
     assert!(rt; next.shape().is_some());
+    assert_eq!(rt; next.class_on(Cell::root()), Some(Class::Mixed));
+    assert_eq!(rt; state.zone_class(0, Cell::root().child(0)), Class::Outside);
     state.commit(next);
     let Ok(next) = state.prepare_add(alloc, 8, square(alloc, (0, 0), (5, 5))?) else {
         return Err("turned away".into());
@@ -380,6 +382,7 @@ fn zones_come_before_trained_cells(rt: HostRuntime) -> Result<(), Fail> {
         };
         assert_eq!(rt; next.split(), 0);
         assert_eq!(rt; next.size(), size);
+        assert_eq!(rt; next.trained().len(), level as usize);
         assert_eq!(rt; next.leaf(&state, origin).level(), level);
         assert_eq!(rt; state.leaf(origin).level(), 5);
         state.commit(next);
