@@ -239,6 +239,81 @@ fn layers_that_are_not_asked_for_are_not_tested(rt: HostRuntime) -> Result<(), F
     Ok(())
 }
 
+/// Three trainings with five points at (300000, 300000), where one zone with few cells stands, and what is found there
+/// before them and after the first two.
+fn trained<L: Ledger>(
+    writer: &mut Writer,
+    reader: &mut Reader,
+    zone: Shape,
+    blank: Blank,
+) -> ([Result<Done, Refused>; 3], [(At, Option<u32>); 3])
+    requires name { blank.name ≡ L.name }
+    requires parts { (blank.parts ≡ L.parts) × (0 < L.parts) }
+{
+    let mut steps = Steps::<L>::new(blank);
+    let p = Point {
+        x: 300_000,
+        y: 300_000,
+    };
+    let sample = [p, p, p, p, p];
+    let _ = writer.add(7, zone, &mut steps);
+    let before = first_key(reader, p, &mut steps);
+    let first = writer.train(&sample, 5, &mut steps);
+    let between = first_key(reader, p, &mut steps);
+    let second = writer.train(&sample, 5, &mut steps);
+    let after = first_key(reader, p, &mut steps);
+    let third = writer.train(&sample, 5, &mut steps);
+    ([first, second, third], [before, between, after])
+}
+
+/// What is found at a point, and the first of the keys.
+fn first_key<L: Ledger>(reader: &mut Reader, p: Point, steps: &mut Steps<L>) -> (At, Option<u32>) {
+    let mut keys = Keys::new();
+    let found = reader.at(p, Layers::all(), &mut keys, steps);
+    if keys.len() > 0 {
+        (found, Some(keys.get(0)))
+    } else {
+        (found, None)
+    }
+}
+
+/// A training after one update.
+fn training(version: u64, split: u32) -> Result<Done, Refused> {
+    Ok(Done {
+        version,
+        updates: 1,
+        split,
+    })
+}
+
+#[test]
+fn trainings_keep_the_keys(rt: HostRuntime) -> Result<(), Fail> {
+    let few = Settings::new(0, 64, 1, 4).ok_or("limits")?;
+    let mut writer = Writer::new(rt.alloc(), few, 1)?;
+    let Ok(mut reader) = writer.lend() else {
+        return Err(Fail::from("no pin"));
+    };
+    let zone = square(rt.alloc(), (0, 0), (1_000_000, 1_000_000))?;
+    let (updates, [before, between, after]) = trained::<Brand>(
+        &mut writer,
+        &mut reader,
+        zone,
+        Blank::new(1),
+    );
+    assert_eq!(rt; updates, [training(2, 1), training(3, 1), training(3, 0)]);
+    assert_eq!(rt;
+        (before.0.version, before.0.count, before.1),
+        (1, 1, Some(7))
+    );
+    assert_eq!(rt;
+        (between.0.version, between.0.count, between.1),
+        (2, 1, Some(7))
+    );
+    assert_eq!(rt; (after.0.version, after.0.count, after.1), (3, 1, Some(7)));
+    assert!(rt; before.0.reads <= 10 && between.0.reads <= 11 && after.0.reads <= 5);
+    Ok(())
+}
+
 #[test]
 fn lends_each_reader_once(rt: HostRuntime) -> Result<(), Fail> {
     let mut writer = Writer::new(rt.alloc(), settings(8)?, 2)?;
