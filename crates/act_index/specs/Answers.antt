@@ -8,6 +8,7 @@ use Rattle.act_super.specs.Histories.{state_of}
 use Rattle.act_super.specs.Joins.{Hit, zones_at, join}
 use Rattle.act_rows.specs.History.{History, Begins}
 use Rattle.act_rows.specs.Tokens.{Guested, no_ticket}
+use Rattle.act_probe.specs.declared.buffers.Hit.{Hit as Probed}
 use Rattle.act_probe.specs.Reads.{reads_of}
 use Rattle.act_index.specs.declared.pairs.Pair.{Pair}
 use Rattle.act_index.specs.Codes.{IsTold}
@@ -23,9 +24,9 @@ pub record IsAnswer (h : History) (layers : Layers) (p : Point) (keys : List ℕ
 abbrev pub pair_of : Hit → Pair
 pair_of hit = record { point = hit.point; key = hit.key }
 
--- the keys as pairs with the place of a point
-abbrev pub pairs_at : ℕ → List ℕ → List Pair
-pairs_at point keys = map (λ key. record { point = point; key = key }) keys
+-- a pair as a batch of probes has it
+abbrev pub own_pair : Probed → Pair
+own_pair hit = record { point = hit.point; key = hit.key }
 
 -- the pairs are the join of the points with the zones after the entries of the history
 pub record IsJoin (h : History) (layers : Layers) (points : List Point) (pairs : List Pair) (reads : ℕ) : Type 0 where

@@ -1,13 +1,13 @@
 //! A reader of the zones.
 
-ghost use Rattle.std.specs.Prelude.{◌≡◌, ◌+◌, ◌*◌, ◌<◌, ◌≤◌, ◌++◌, [], IfOk, OnOk, length, map, sum_by};
+ghost use Rattle.std.specs.Prelude.{◌≡◌, ◌+◌, ◌*◌, ◌<◌, ◌≤◌, [], IfOk, OnOk, length, map, sum_by};
 ghost use Rattle.act_grid.specs.declared.Settings.{Settings};
 ghost use Rattle.act_super.specs.declared.entry.State.{State};
 ghost use Rattle.act_super.specs.Joins.{join};
 ghost use Rattle.act_super.specs.Stands.{Stands};
 ghost use Rattle.act_rows.specs.Images.{sight_of};
 ghost use Rattle.act_probe.specs.Reads.{reads_of};
-ghost use Rattle.act_index.specs.Answers.{IsAnswer, IsJoin, IsSeen, pair_of, pairs_at};
+ghost use Rattle.act_index.specs.Answers.{IsAnswer, IsJoin, IsSeen, own_pair, pair_of};
 
 use crate::pairs::{Pair, Pairs};
 use crate::put::Zones;
@@ -15,9 +15,9 @@ use crate::writer::Note;
 use act_base::Steps;
 use act_grid::{Layers, NoMemory, Point};
 use act_io::{Gate, Place};
-use act_probe::{Keys, Words, probe};
+use act_probe::{Buffers, Hit, Keys, Words, probe, probe_batch};
 use act_rows::{Guest, Pin};
-use std::alloc::{AllocError, Global};
+use std::alloc::Global;
 use std::marker::Model;
 use std::sync::ledger::Ledger;
 
@@ -26,6 +26,8 @@ use std::sync::ledger::Ledger;
 pub struct Reader {
     // None only inside of a call.
     pub(crate) guest: Option<Guest<Zones>>,
+    // What batches are answered in. They are kept, so that they grow once.
+    pub(crate) buffers: Buffers,
 }
 
 impl Model for Reader {
@@ -131,18 +133,18 @@ fn ask<L: Ledger>(
     (pin.leave(), found)
 }
 
-// The keys as pairs with the place of a point.
-fn put_keys(pairs: &mut Vec<Pair>, point: u32, keys: &Keys) -> Result<(), AllocError>
-    ensures pairs { OnOk result (pairs.new.items ≡ pairs.old.items ++ pairs_at point keys.now) }
-    ensures most { length keys.now ≤ 510 }
+// The hits of a batch as pairs.
+fn pairs_of(alloc: Global, hits: &[Hit]) -> Result<Pairs, NoMemory>
+    ensures { IfOk result (λ pairs. pairs ≡ map own_pair hits.now) }
 {
-    for j in 0..keys.len() {
-        pairs.push(Pair {
-            point,
-            key: keys.get(j),
-        })?;
+    let mut pairs = Vec::with_capacity(alloc, hits.len())?;
+    for hit in hits {
+        pairs.push_reserved(Pair {
+            point: hit.point,
+            key: hit.key,
+        });
     }
-    Ok(())
+    Ok(Pairs::from_vec(pairs))
 }
 
 // All points in order, by the words of one version, and how many words were read.
@@ -152,6 +154,7 @@ fn join_all<L: Ledger>(
     root: u32,
     points: &[Point],
     layers: Layers,
+    buffers: &mut Buffers,
     steps: &mut Steps<L>,
 ) -> Result<(Pairs, u64), NoMemory>
     requires stands { (settings : Settings) × (state : State) × Stands settings (sight_of words.old.pin.version.image) root state }
@@ -162,14 +165,9 @@ fn join_all<L: Ledger>(
     ensures reads { IfOk result (λ r. (settings : Settings) (state : State) → Stands settings (sight_of words.old.pin.version.image) root state → r.1 ≤ sum_by (λ p. reads_of settings state p layers) points.now) }
     ensures most { IfOk result (λ r. length r.0 ≤ 510 * length points.now) }
 {
-    let mut pairs = Vec::with_capacity(alloc, points.len())?;
-    let mut keys = Keys::new();
-    let mut reads = 0;
-    for i in 0..points.len() {
-        reads += probe(words, root, points[i], layers, &mut keys, steps);
-        put_keys(&mut pairs, i as u32, &keys)?;
-    }
-    Ok((Pairs::from_vec(pairs), reads))
+    let reads = probe_batch(words, root, points, layers, buffers, steps)?;
+    let pairs = pairs_of(alloc, buffers.hits())?;
+    Ok((pairs, reads))
 }
 
 // The batch in the version that the words are of, and the calls of the gate.
@@ -180,6 +178,7 @@ fn join_held<G: Gate, L: Ledger>(
     points: &[Point],
     layers: Layers,
     gate: &G,
+    buffers: &mut Buffers,
     steps: &mut Steps<L>,
 ) -> Result<Answer, NoMemory>
     requires stands { (settings : Settings) × (state : State) × Stands settings (sight_of words.old.pin.version.image) words.old.pin.version.root state }
@@ -194,7 +193,7 @@ fn join_held<G: Gate, L: Ledger>(
     let version = words.pin.version();
     let root = words.pin.root();
     gate.at(who, Place::Bound, version);
-    let (pairs, reads) = join_all(alloc, words, root, points, layers, steps)?;
+    let (pairs, reads) = join_all(alloc, words, root, points, layers, buffers, steps)?;
     gate.at(who, Place::Probed, reads);
     Ok(Answer {
         version,
@@ -210,6 +209,7 @@ fn ask_all<G: Gate, L: Ledger>(
     points: &[Point],
     layers: Layers,
     gate: &G,
+    buffers: &mut Buffers,
     steps: &mut Steps<L>,
 ) -> (Guest<Zones>, Result<Answer, NoMemory>)
     requires few { length points.now ≤ 8192 }
@@ -223,7 +223,7 @@ fn ask_all<G: Gate, L: Ledger>(
     let who = 1 + guest.reader();
     let pin = guest.pin();
     let mut words = Pinned { pin };
-    let found = join_held(alloc, &mut words, who, points, layers, gate, steps);
+    let found = join_held(alloc, &mut words, who, points, layers, gate, buffers, steps);
     let Pinned { pin } = words;
     (pin.leave(), found)
 }
@@ -293,6 +293,9 @@ impl Reader {
     /// current during the call and no older than what the reader has seen. After want of memory the reader has seen
     /// that version, too. The gate is called at `Bound` with the version, and at `Probed` with the reads, while the
     /// version is held.
+    ///
+    /// The points go down in groups, and the candidates of each zone are tested together, its polygon being read once.
+    /// The reader keeps what that takes for its next batch. Beside it memory is taken once, for the pairs of the answer.
     pub fn join<G: Gate, L: Ledger>(
         &mut self,
         alloc: Global,
@@ -311,7 +314,7 @@ impl Reader {
         let Some(guest) = self.guest.take() else {
             unreachable!()
         };
-        let (guest, found) = ask_all(alloc, guest, points, layers, gate, steps);
+        let (guest, found) = ask_all(alloc, guest, points, layers, gate, &mut self.buffers, steps);
         self.guest = Some(guest);
         found
     }

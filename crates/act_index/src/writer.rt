@@ -14,6 +14,7 @@ use act_geom::Shape;
 use act_grid::{NoMemory, Settings};
 use act_image::Image;
 use act_pool::Pool;
+use act_probe::Buffers;
 use act_rows::{Master, NoPin, new};
 use act_super::{Next, Super};
 use std::alloc::Global;
@@ -67,9 +68,11 @@ fn take_back(master: &mut Master<Zones>, reader: Reader)
     ensures same { (master.new.table ≡ master.old.table) × (master.new.desk ≡ returned master.old.desk reader.ticket) }
     ensures begins { Begins reader.ticket.seen master.old.desk.history }
 {
-    let Some(guest) = reader.guest else {
-        unreachable!()
-    };
+    let Reader {
+        guest,
+        buffers: _buffers,
+    } = reader;
+    let Some(guest) = guest else { unreachable!() };
     master.give_back(guest);
 }
 
@@ -258,7 +261,10 @@ impl Writer {
         ensures err { IfErr result (λ _. (lowest self.old.desk.bounds ≡ self.old.desk.pins) × (self.new ≡ self.old)) }
     {
         let guest = self.master.lend()?;
-        Ok(Reader { guest: Some(guest) })
+        Ok(Reader {
+            guest: Some(guest),
+            buffers: Buffers::new(self.alloc),
+        })
     }
 
     /// Takes a reader back, which was lent by this writer: its number may be lent again.

@@ -192,6 +192,8 @@ pub fn probe_batch<W: Words, L: Ledger>(
     ensures same { words.new ≡ words.old }
     // The pairs are those of each state for which the words stand.
     ensures hits { OnOk result ((settings : Settings) (state : State) → Stands settings (W.image words.old) root state → hits_in buffers.new ≡ join layers state.zones points.now) }
+    // There are at most 510 a point.
+    ensures room { OnOk result (length buffers.new.found.hits.items ≤ 510 * length points.now) }
     // Want of memory or not, no more words are read than for the points one by one.
     ensures few { (settings : Settings) (state : State) → Stands settings (W.image words.old) root state
         → buffers.new.found.reads ≤ sum_by (λ p. reads_of settings state p layers) points.now }

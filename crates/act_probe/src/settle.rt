@@ -118,7 +118,8 @@ fn shift(hits: &mut [Hit], kept: &[bool]) -> usize
 /// Lets go of the pairs that aren't kept.
 fn compact(hits: &mut Vec<Hit>, kept: &[bool])
     requires { length kept.now ≡ length hits.old.items }
-    ensures { hits.new.items ≡ chosen kept.now hits.old.items }
+    ensures hits { hits.new.items ≡ chosen kept.now hits.old.items }
+    ensures few { length hits.new.items ≤ length hits.old.items }
 {
     let to = shift(hits, kept);
     hits.truncate(to);
@@ -134,6 +135,7 @@ pub(crate) fn finish<W: Words, L: Ledger>(words: &mut W, found: &mut Found, step
         → map hit_of found.new.hits.items ≡ join layers state.zones points }
     ensures few { (settings : Settings) (state : State) (layers : Layers) (points : List Point) → Gathers (W.image words.old) settings state layers points 0 found.old
         → found.new.reads ≤ sum_by (λ p. reads_of settings state p layers) points }
+    ensures room { length found.new.hits.items ≤ length found.old.hits.items }
     ensures ticks { steps.new + found.old.reads ≡ steps.old + found.new.reads }
     ensures bound { found.new.reads < 2 ^ 48 }
 {

@@ -38,7 +38,7 @@ returns-clause-hits g c = λ settings state layers points h.
     let kept = (rw (c.deref_mut-2.ensures.value, same) at c.keep.ensures) (map is_held h.mets) (settles _ c.args.found.now h.mets h.holds c.order.new.candidates.items c.order.ensures.permutation c.resolve.new.candidates odd) in
     let bits = ap (λ (l : List Bool). length l) h.holds.kept ∙ length-map h.mets (λ (m : Met). m.hit) ∙ sym (length-map h.mets is_held) in
     let whole = written c.args.found.now.kept.items c.keep.new.kept _ (ap (λ (l : List Bool). length l) kept ∙ sym bits) (omega (arith, c.deref_mut-2.ensures.len, ap (λ (l : List Bool). length l) c.deref_mut-2.ensures.value)) in
-    ap (map hit_of) (c.compact.ensures ∙ ap (λ (l : List Bool). chosen l c.args.found.now.hits.items) (c.deref-2.ensures.value ∙ whole ∙ kept) ∙ hits_are _ c.args.found.now h.mets h.holds)
+    ap (map hit_of) (c.compact.ensures.hits ∙ ap (λ (l : List Bool). chosen l c.args.found.now.hits.items) (c.deref-2.ensures.value ∙ whole ∙ kept) ∙ hits_are _ c.args.found.now h.mets h.holds)
     ∙ map-map hit_of pair_of (filter is_held h.mets) ∙ h.are
 
 pub returns-clause-few : goal.returns-clause-few
