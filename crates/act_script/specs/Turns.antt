@@ -1,6 +1,6 @@
 -- Steps with the samples of their trainings.
-use Rattle.std.specs.Prelude.{◌++◌, ℕ, List, [], ◌∷◌, take}
-use Rattle.std.specs.List.{flat_map}
+use Rattle.std.specs.Prelude.{◌≡◌, ◌++◌, ℕ, Bool, true, false, List, [], ◌∷◌, if◌then◌else◌, take}
+use Rattle.std.specs.List.{flat_map, list_any}
 use Rattle.act_grid.specs.declared.Point.{Point}
 use Rattle.act_script.specs.declared.segment.Batch.{Batch}
 use Rattle.act_script.specs.declared.segment.Step.{Step}
@@ -62,3 +62,26 @@ turns_from points (segment ∷ segments) = turns_of points segment ++ turns_from
 abbrev pub points_from : List Point → List (List Step) → List Point
 points_from points [] = points
 points_from points (segment ∷ segments) = points_from (points_after points segment) segments
+
+-- the segments from the last one with a training on, or all where no segment has one
+abbrev pub update_trains : Update → Bool
+update_trains (update.Add key shape) = false
+update_trains (update.DropZone key) = false
+update_trains (update.Replace key shape) = false
+update_trains (update.Train threshold) = true
+
+abbrev pub step_trains : Step → Bool
+step_trains (step.Update asked) = update_trains asked
+step_trains (step.Batch batch) = false
+
+abbrev pub has_training : List Step → Bool
+has_training steps = list_any step_trains steps
+
+abbrev pub since_training : List (List Step) → List (List Step)
+since_training [] = []
+since_training (segment ∷ segments) = if list_any has_training segments then since_training segments else segment ∷ segments
+
+-- the points that are there for a sample after segments are the first of all points of their batches, from the segment of
+-- the last training on
+abbrev pub SamplesAreFirstPoints : Type 0
+SamplesAreFirstPoints = (segments : List (List Step)) → points_from [] segments ≡ take most_sampled (flat_map points_in (since_training segments))

@@ -16,3 +16,11 @@ ghost use Rattle.act_script.specs.Text.{LeastCountsAreFair};
 pub fn counts_exist()
     ensures { LeastCountsAreFair }
 {}
+
+ghost use Rattle.act_script.specs.Turns.{SamplesAreFirstPoints};
+
+/// A training has the first points of all batches of earlier segments, from that of the training before it on.
+/// It does nothing when it runs.
+pub fn samples_are_first_points()
+    ensures { SamplesAreFirstPoints }
+{}

@@ -32,7 +32,7 @@ mod set;
 pub use cutter::{CutFault, Cutter, MOST_BYTES, MOST_LINES, Taken};
 pub use fault::LineFault;
 pub use item::Item;
-pub use laws::{counts_exist, lines_are_records};
+pub use laws::{counts_exist, lines_are_records, samples_are_first_points};
 pub use line::read_line;
 pub use lists::{Ids, Points};
 pub use segment::{Batch, Segment, Step, Update};
