@@ -29,25 +29,32 @@ updates_more (entry.DropZone key ∷ xs) ys = ap (λ es. entry.DropZone key ∷ 
 updates_more (entry.Replace key shape ∷ xs) ys = ap (λ es. entry.Replace key shape ∷ es) (updates_more xs ys)
 updates_more (entry.Train cells ∷ xs) ys = updates_more xs ys
 
-updates_add : (xs ys : List Entry) → updates_of (xs ++ ys) ≡ updates_of xs + updates_of ys
+pub updates_add : (xs ys : List Entry) → updates_of (xs ++ ys) ≡ updates_of xs + updates_of ys
 updates_add xs ys = ap length (updates_more xs ys) ∙ length-append (filter is_update xs) (filter is_update ys)
 
 -- what is held after a turn, and after those behind it
 counted : (n : ℕ) (xs ys : List Entry) → (n + updates_of xs) + updates_of ys ≡ n + updates_of (xs ++ ys)
 counted n xs ys = let both : updates_of (xs ++ ys) ≡ updates_of xs + updates_of ys = updates_add xs ys in omega (arith, both)
 
+longer_by : (n : ℕ) (xs ys : List Entry) → (n + length xs) + length ys ≡ n + length (xs ++ ys)
+longer_by n xs ys = let both = length-append xs ys in omega (arith, both)
+
 pub turns_step : (held : Held) (first : Turn) (turns : List Turn) → after_turns (after_turn held first) turns ≡ after_turns held (first ∷ turns)
 turns_step held (Joins batch) turns = refl
 turns_step held (Asks sample asked) turns =
-    ap (λ n. record (after_turns (after_asked held sample asked) turns) { updates = n })
-    (counted held.updates (made_by held.settings held.state (Asks sample asked)) (accepted_in (after_asked held sample asked) turns))
+    let made = made_by held.settings held.state (Asks sample asked) in
+    let rest = accepted_in (after_asked held sample asked) turns in
+    λ i. record (after_turns (after_asked held sample asked) turns) { version = longer_by held.version made rest i; updates = counted held.updates made rest i }
 
 pub held_is : (held : Held) (turns : List Turn) → held_from held turns ≡ after_turns held turns
-held_is held [] = let none : held.updates ≡ held.updates + 0 = omega arith in ap (λ n. record held { updates = n }) none
+held_is held [] =
+    let none : held.updates ≡ held.updates + 0 = omega arith in
+    let same : held.version ≡ held.version + 0 = omega arith in
+    λ i. record held { version = same i; updates = none i }
 held_is held (first ∷ turns) = held_is (after_turn held first) turns ∙ turns_step held first turns
 
 -- the state after more entries
-state_more : (settings : Settings) (state : State) (xs ys : List Entry) → state_from settings state (xs ++ ys) ≡ state_from settings (state_from settings state xs) ys
+pub state_more : (settings : Settings) (state : State) (xs ys : List Entry) → state_from settings state (xs ++ ys) ≡ state_from settings (state_from settings state xs) ys
 state_more settings state [] ys = refl
 state_more settings state (x ∷ xs) ys = state_more settings (after settings state x) xs ys
 
@@ -68,7 +75,7 @@ leads_on held sample asked before leads =
     }
 
 -- the zones after as many updates as lead here
-zones_here : (held : Held) (before rest history : List Entry) → LeadsTo held before → history ≡ before ++ rest → zones_after held.updates history ≡ held.state.zones
+pub zones_here : (held : Held) (before rest history : List Entry) → LeadsTo held before → history ≡ before ++ rest → zones_after held.updates history ≡ held.state.zones
 zones_here held before rest history leads same =
     let front = filter is_update before in
     let parts : filter is_update history ≡ front ++ filter is_update rest = ap (filter is_update) same ∙ updates_more before rest in
@@ -93,7 +100,7 @@ own_is held (Joins batch ∷ turns) before later history leads same =
     ∙ ap (λ text. batch_text history held.updates batch ++ text) (own_is held turns before later history leads same)
 
 -- one count for each batch
-counts_each : (held : Held) (turns : List Turn) → length (own_counts held turns) ≡ joins_in turns
+pub counts_each : (held : Held) (turns : List Turn) → length (own_counts held turns) ≡ joins_in turns
 counts_each held [] = refl
 counts_each held (Asks sample asked ∷ turns) = counts_each (after_asked held sample asked) turns
 counts_each held (Joins batch ∷ turns) =

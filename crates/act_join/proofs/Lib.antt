@@ -1,8 +1,14 @@
 pub mod DecideFacts
+pub mod UpdatingFacts
+pub mod PartsFacts
+pub mod FoundFacts
+pub mod AnsweredFacts
+pub mod MergeFacts
+pub mod SolveFacts
+pub mod SolvedFacts
 pub mod PutFacts
-pub mod HitFacts
+pub mod PairFacts
 pub mod HeldFacts
-pub mod SampleFacts
 pub mod ReplyFacts
 pub mod TextFacts
 pub mod AnswerFacts

@@ -16,20 +16,22 @@ use Rattle.act_io.specs.Streams.{Stream, Gets, GetsFront, HasFailed}
 use Rattle.act_join.specs.declared.fault.SegmentFault.{SegmentFault}
 use Rattle.act_join.specs.declared.fault.SegmentFault.TheVariants as fault
 
--- what is held between turns: the settings, the state, and how many updates were accepted
+-- what is held between turns: the settings, the state, how many entries the history has, and how many of them are updates
 pub record Held : Type 0 where
   pub settings : Settings
   pub state : State
+  pub version : ℕ
   pub updates : ℕ
 
 -- before the first turn
 abbrev pub nothing_held : Settings → Held
-nothing_held settings = record { settings = settings; state = nothing; updates = 0 }
+nothing_held settings = record { settings = settings; state = nothing; version = 0; updates = 0 }
 
 -- after an update is decided, where a training has this sample
 abbrev pub after_asked : Held → List Point → Update → Held
 after_asked held sample asked = record held {
   state = decided held.settings held.state (entry_of held.settings held.state sample asked);
+  version = held.version + length (made_by held.settings held.state (Asks sample asked));
   updates = held.updates + updates_of (made_by held.settings held.state (Asks sample asked));
 }
 
@@ -76,6 +78,7 @@ accepted_in held turns = accepted_from held.settings held.state turns
 abbrev pub after_turns : Held → List Turn → Held
 after_turns held turns = record held {
   state = state_decided held.settings held.state turns;
+  version = held.version + length (accepted_in held turns);
   updates = held.updates + updates_of (accepted_in held turns);
 }
 

@@ -1,6 +1,9 @@
 pub mod Replies
 pub mod Held
 pub mod Kept
+pub mod Solved
+pub mod Working
+pub mod Merging
 pub mod Puts
 pub mod Ends
 pub mod Feeds

@@ -20,3 +20,8 @@ Stops out whole fault.NoMemory = GetsFront out whole
 abbrev pub Puts : Stream → List ℕ → List ℕ → List ℕ → Result (Unit {0}) SegmentFault → Type 0
 Puts out old new text (Ok done) = IsAt out new [] (old ++ text)
 Puts out old new text (Err why) = Stops out (old ++ text) why
+
+-- a text was written, or a front of it
+abbrev pub Writes : Stream → List ℕ → Result (Unit {0}) SegmentFault → Type 0
+Writes out text (Ok done) = Gets out text
+Writes out text (Err why) = Stops out text why

@@ -4,9 +4,10 @@ ghost use Rattle.std.specs.Prelude.{◌<◌};
 
 use crate::{Ended, ScriptFault, engine};
 use act_grid::Settings;
-use act_io::{MemSink, MemSource, NoGate, Sink, Source, SureSink, SureSource};
+use act_io::{Gate, MemSink, MemSource, NoGate, Place, Sink, Source, SureSink, SureSource};
 use act_script::{CutFault, LineFault};
 use std::alloc::Global;
+use std::sync::atomic::{AtomicU64, Ordering};
 use std::test::Fail;
 use std::thread::Threads;
 
@@ -23,7 +24,7 @@ fn run<T: Threads + Sync, S: Source, K: Sink>(
     input: &mut S,
     out: &mut K,
 ) -> Ended {
-    match Settings::new(0, 16_384, 64, 4) {
+    match Settings::new(0, 256, 64, 4) {
         Some(settings) => engine(rt, alloc, settings, input, out, &NoGate),
         None => Ended::NoMemory,
     }
@@ -71,23 +72,25 @@ fn scripts_have_their_replies(rt: HostRuntime) -> Result<(), Fail> {
         ),
         (
             format!(in alloc;
-                "replace,7,{square}zone,7,{square}replace,7,{square}replace,7,{small}point,1,6,6\n"
+                "replace,7,{square}zone,7,{square}replace,7,{square}replace,7,{small}sync\npoint,1,6,6\n"
             )?,
             "replace 7 refused unknown\nzone 7 ok\nreplace 7 refused same\nreplace 7 ok\nbatch 1 after 2 points 1\n",
         ),
         (
-            format!(in alloc; "zone,9,{square}zone,2,{square}point,11,5,5\npoint,10,8,2\nbatch\n")?,
+            format!(in alloc;
+                "zone,9,{square}zone,2,{square}sync\npoint,11,5,5\npoint,10,8,2\nbatch\n"
+            )?,
             "zone 9 ok\nzone 2 ok\nbatch 1 after 2 points 2\n11,2\n11,9\n10,2\n10,9\n",
         ),
         (
             format!(in alloc;
-                "point,1,5,5\nbatch\nzone,7,{square}point,2,5,5\nbatch\ndrop,7\npoint,3,5,5\nbatch\n"
+                "point,1,5,5\nbatch\nsync\nzone,7,{square}sync\npoint,2,5,5\nbatch\nsync\ndrop,7\nsync\npoint,3,5,5\nbatch\n"
             )?,
             "batch 1 after 0 points 1\nzone 7 ok\nbatch 2 after 1 points 1\n2,7\ndrop 7 ok\nbatch 3 after 2 points 1\n",
         ),
         (
             format!(in alloc;
-                "zone,1,{square}zone,16777217,{square}layers,1\npoint,1,5,5\nlayers,2\npoint,2,5,5\nlayers,*\npoint,3,5,5\n"
+                "zone,1,{square}zone,16777217,{square}sync\nlayers,1\npoint,1,5,5\nlayers,2\npoint,2,5,5\nlayers,*\npoint,3,5,5\n"
             )?,
             "zone 1 ok\nzone 16777217 ok\nbatch 1 after 2 points 1\n1,16777217\nbatch 2 after 2 points 1\nbatch 3 after 2 points 1\n3,1\n3,16777217\n",
         ),
@@ -114,7 +117,7 @@ fn run_trained<T: Threads + Sync>(
 ) -> Result<(Ended, MemSink), Fail> {
     let mut input = MemSource::new(alloc, script.as_bytes(), 4096, [].as_slice())?;
     let mut out = MemSink::new(alloc, 4096, 100, [].as_slice())?;
-    let ended = match Settings::new(0, 16_384, 1, 4) {
+    let ended = match Settings::new(0, 256, 1, 4) {
         Some(settings) => engine(rt, alloc, settings, &mut input, &mut out, &NoGate),
         None => Ended::NoMemory,
     };
@@ -139,7 +142,7 @@ fn trainings_have_their_samples(rt: HostRuntime) -> Result<(), Fail> {
         ),
         (
             format!(in alloc;
-                "{zone}{five}batch\ntrain,5\nsync\ntrain,5\ntrain,1\nsync\ntrain,1\n"
+                "{zone}sync\n{five}batch\ntrain,5\nsync\ntrain,5\ntrain,1\nsync\ntrain,1\n"
             )?,
             format!(in alloc;
                 "zone 7 ok\nbatch 1 after 1 points 5\n{told}train split 0\ntrain split 1\ntrain split 0\ntrain split 0\n"
@@ -154,7 +157,9 @@ fn trainings_have_their_samples(rt: HostRuntime) -> Result<(), Fail> {
             )?,
         ),
         (
-            format!(in alloc; "{five}sync\n{five}sync\n{zone}train,10\ndrop,7\ndrop,7\n{five}")?,
+            format!(in alloc;
+                "{five}sync\n{five}sync\n{zone}train,10\ndrop,7\ndrop,7\nsync\n{five}"
+            )?,
             format!(in alloc;
                 "batch 1 after 0 points 5\nbatch 2 after 0 points 5\nzone 7 ok\ntrain split 1\ndrop 7 ok\ndrop 7 refused unknown\nbatch 3 after 2 points 5\n"
             )?,
@@ -271,7 +276,7 @@ fn sure_ends_take_all(rt: HostRuntime) -> Result<(), Fail> {
 fn a_long_answer_is_written_in_pieces(rt: HostRuntime) -> Result<(), Fail> {
     let alloc = rt.alloc();
     let mut script = Vec::new(alloc);
-    script.extend_from_slice(b"zone,7,\"POLYGON((0 0,9 0,9 9,0 9,0 0))\"\n")?;
+    script.extend_from_slice(b"zone,7,\"POLYGON((0 0,9 0,9 9,0 9,0 0))\"\nsync\n")?;
     for _ in 0..8000 {
         script.extend_from_slice(b"point,123456789,5,5\n")?;
     }
@@ -280,12 +285,60 @@ fn a_long_answer_is_written_in_pieces(rt: HostRuntime) -> Result<(), Fail> {
     assert_eq!(rt; run(&rt, alloc, &mut input, &mut out), Ended::Done);
     let head = "zone 7 ok\nbatch 1 after 1 points 8000\n".len();
     assert_eq!(rt; out.bytes().len(), head + 8000 * 12);
-    // The second of the writes fails.
+    // The third of the writes fails: the first has the line of the zone.
     let mut again = MemSource::new(alloc, &script, 100_000, [].as_slice())?;
-    let mut broken = MemSink::new(alloc, 100_000, 100_000, [2u64].as_slice())?;
+    let mut broken = MemSink::new(alloc, 100_000, 100_000, [3u64].as_slice())?;
     let ended = run(&rt, alloc, &mut again, &mut broken);
     assert_eq!(rt; ended, Ended::WriteFault);
     assert!(rt; broken.bytes().len() >= 65_536);
     assert!(rt; broken.bytes().len() < 65_600);
+    Ok(())
+}
+
+/// How many words of rows were read for each of three batches, in their order.
+#[derive(Drop)]
+struct Reads {
+    batches: AtomicU64,
+    reads: [AtomicU64; 3],
+}
+
+impl Gate for Reads {
+    fn at(&self, _who: u32, place: Place, number: u64) {
+        if place != Place::Probed {
+            return;
+        }
+        let batch = self.batches.fetch_add(1, Ordering::SeqCst);
+        if let Some(reads) = self.reads.get(batch as usize) {
+            reads.store(number, Ordering::SeqCst);
+        }
+    }
+}
+
+/// The leaf of the point has level 12, then 13 and 14. There it is a true hit.
+#[test]
+fn index_is_used(rt: HostRuntime) -> Result<(), Fail> {
+    let alloc = rt.alloc();
+    let zone = "zone,7,\"POLYGON((0 0,1000000 0,1000000 1000000,0 1000000,0 0))\"\n";
+    let five =
+        "point,1,300000,300000\npoint,2,300000,300000\npoint,3,300000,300000\npoint,4,300000,300000\npoint,5,300000,300000\n";
+    let script = format!(in alloc;
+        "{zone}sync\n{five}sync\ntrain,5\n{five}sync\ntrain,5\nsync\n{five}"
+    )?;
+    let gate = Reads {
+        batches: AtomicU64::new(0),
+        reads: [AtomicU64::new(0), AtomicU64::new(0), AtomicU64::new(0)],
+    };
+    let mut input = SureSource::new(alloc, script.as_str().as_bytes())?;
+    let mut out = SureSink::new();
+    if let Some(settings) = Settings::new(0, 256, 1, 1) {
+        assert_eq!(rt;
+            engine(&rt, alloc, settings, &mut input, &mut out, &gate),
+            Ended::Done
+        );
+    }
+    for (reads, most) in gate.reads.iter().zip([50, 55, 25]) {
+        let reads = reads.load(Ordering::SeqCst);
+        assert!(rt; 5 <= reads && reads <= most);
+    }
     Ok(())
 }

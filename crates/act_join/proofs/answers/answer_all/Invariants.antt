@@ -1,0 +1,11 @@
+use Rattle.std.proofs.Common.{◌≡◌, take}
+use Rattle.act_rows.specs.History.{Begins, History}
+use Rattle.act_join.specs.Working.{AreFound}
+use Rattle.act_join.proofs.answers.answer_all.Given as goal
+
+abbrev pub invariant-loop-batch : goal.invariant-loop-batch
+invariant-loop-batch g l = record {
+  found : (before : History) → Begins before l.fn.reader.ticket.seen → AreFound before l.reader.ticket.seen (take l.batch-index l.batches) l.answers.items;
+  later : Begins l.fn.reader.ticket.seen l.reader.ticket.seen;
+  table : l.reader.table ≡ l.fn.reader.table;
+}
