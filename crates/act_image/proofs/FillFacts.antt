@@ -238,6 +238,18 @@ module _ (settings : Settings) (state : State) (c : Address) (node : IsNode sett
           let deeper : (entry_cell c i).level < (first_leaf settings state (entry_cell c i)).level = ltb-true (entry_cell c i).level _ parted in
           absurd (omega (arith, deeper, leaf.near, ap (λ (a : Address). a.level) is))
 
+  -- a child node's entry is split, and a leaf that holds an entry is its own
+  pub child_parted : Among (node_children settings state c) (entry_cell c i) → is_parted settings state (entry_cell c i) ≡ true
+  child_parted among =
+      let s = each_among (SplitIn settings state c 4) (node_children settings state c) (entry_cell c i) near_splits among in
+      split_parted settings state (entry_cell c i) entry_is_cell s.reached s.split
+
+  pub first_is : (l : Address) → Among (node_leaves settings state c) l → IsIn (hull_of l) (hull_of (entry_cell c i)).lo → first_leaf settings state (entry_cell c i) ≡ l
+  first_is l among inside = first_leaf_is settings state (entry_cell c i) l entry_is_cell (each_among (LeafIn settings state c 4) (node_leaves settings state c) l near_leaves among).leaf inside
+
+  pub first_inside : IsIn (hull_of (first_leaf settings state (entry_cell c i))) (hull_of (entry_cell c i)).lo
+  first_inside = first_holds settings state (entry_cell c i) entry_is_cell
+
   pub leaf_entry_is : (base slot : ℕ) → is_parted settings state (entry_cell c i) ≡ false
       → entry_in (spots_of settings state base slot c) i
       ≡ entry_for (refs_on state.zones (first_leaf settings state (entry_cell c i))) (base + (start_in settings state c (first_leaf settings state (entry_cell c i))).row)

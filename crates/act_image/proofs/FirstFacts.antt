@@ -1,5 +1,6 @@
 -- A first plan over the image of no zones stands for its state.
 use Rattle.std.proofs.Common.{◌≡◌, ◌≢◌, ℕ, zero, suc, ◌+◌, ◌^◌, ◌<◌, ◌≤◌, ◌⊎◌, inl, inr, Bool, true, false, cond, ◌==◌, eqb, refl, sym, ap, ◌∙◌, subst, arith, List, [], ◌∷◌, length, get_or, drop}
+use Rattle.std.proofs.lemmas.Bool.{le-ltb, lt-ltb}
 use Rattle.std.proofs.lemmas.Bool.Decides.{eqb_tells}
 use Rattle.std.proofs.lemmas.List.{drop_all, drop_more}
 use Rattle.act_grid.specs.declared.Settings.{Settings}
@@ -9,10 +10,11 @@ use Rattle.act_base.proofs.Times.{from_once, from_ranged, times_else, times_get,
 use Rattle.act_super.specs.declared.entry.State.{State}
 use Rattle.act_super.specs.States.{nothing}
 use Rattle.act_super.specs.Stands.{IsBlank, Stands}
-use Rattle.act_image.specs.Pics.{IsBound, IsFresh, IsPlan, Makes, Opens, Pic, Planned, Shows, firsts_in, installed, layout_in, planned_word, row_at, rows_in, sight_of}
+use Rattle.act_image.specs.Pics.{IsFresh, IsPlan, Makes, Opens, Pic, Planned, Shows, empty_sight, firsts_in, installed, layout_in, planned_word, renewed, row_at, rows_in, with_numbers}
+use Rattle.act_image.proofs.BindFacts.{bound}
 
 -- ---- where a row stands
-row_here : (rows : List ℕ) (i r : ℕ) → i < length rows → get_or rows i 0 ≡ r → times rows r ≤ 1 → row_at rows r ≡ i
+pub row_here : (rows : List ℕ) (i r : ℕ) → i < length rows → get_or rows i 0 ≡ r → times rows r ≤ 1 → row_at rows r ≡ i
 row_here [] i r low is once = absurd (omega (arith, low))
 row_here (x ∷ rows) zero r low is once = ap (λ b. cond b 0 (suc (row_at rows r))) (Rattle.std.proofs.Common.eq-eqb x r is)
 row_here (x ∷ rows) (suc i) r low is once = by (eqb_tells x r) (λ few. row_here rows i r (omega (arith, low)) is few)
@@ -41,18 +43,23 @@ row_later rows i r low ne h =
     ap (λ v. row_at v r) (drop_more rows i 0 low) ∙ ap (λ b. cond b 0 (suc (row_at (drop (i + 1) rows) r))) no in
     omega (arith, h, there)
 
-pub times_later : (rows : List ℕ) (i r : ℕ) → i < length rows → get_or rows i 0 ≢ r → times rows r ≡ times (drop i rows) r → times rows r ≡ times (drop (i + 1) rows) r
-times_later rows i r low ne h = h ∙ ap (λ v. times v r) (drop_more rows i 0 low) ∙ times_else (get_or rows i 0) r (drop (i + 1) rows) ne
+pub row_past : (rows : List ℕ) (i r : ℕ) → length rows ≤ i → row_at rows r ≡ i + row_at (drop i rows) r → row_at rows r ≡ i
+row_past rows i r high h = let none = ap (λ v. row_at v r) (drop_all i rows high) in omega (arith, h, none)
 
-pub times_end : (rows : List ℕ) (i r : ℕ) → length rows ≤ i → 0 < times rows r → times rows r ≡ times (drop i rows) r → ⊥
-times_end rows i r high some h = omega (arith, some, h, ap (λ v. times v r) (drop_all i rows high))
+row_none : (rows : List ℕ) (r : ℕ) → times rows r ≡ 0 → row_at rows r ≡ length rows
+row_none [] r none = refl
+row_none (x ∷ rows) r none = by (eqb_tells x r) (λ more. row_none rows r more)
+  where
+    by : ((eqb x r ≡ true) × (x ≡ r)) ⊎ ((eqb x r ≡ false) × (x ≢ r)) → (times rows r ≡ 0 → row_at rows r ≡ length rows) → cond (x == r) 0 (suc (row_at rows r)) ≡ suc (length rows)
+    by (inl same) more =
+        let one : times (x ∷ rows) r ≡ 1 + times rows r = subst (λ v. times (x ∷ rows) v ≡ 1 + times rows v) same.1 (times_here x rows) in
+        absurd (omega (arith, one, none))
+    by (inr other) more =
+        let no : (x == r) ≡ false = other.0 in
+        ap (λ b. cond b 0 (suc (row_at rows r))) no ∙ ap suc (more (omega (arith, none, times_else x r rows other.1)))
 
 -- ---- the first plan
-blank : Sight
-blank = record { rows = 1 ∷ []; firsts = []; word = λ row place. 0 }
-
-blank_is : IsBlank blank
-unfolding blank
+blank_is : IsBlank empty_sight
 blank_is = record { rows = refl; firsts = refl; word = λ place low. refl }
 
 first_fresh : (p : Pic) (need : ℕ) → rows_in p ≡ 1 ∷ [] → need ≤ 1000 → IsFresh p (from 2 need)
@@ -69,25 +76,38 @@ first_fresh p need rows few = record {
         none r is (suc n) one ranged e = let two = ranged (omega arith) in absurd (omega (arith, two, is))
     by r (inr other) n one ranged e = let zero_times : times (1 ∷ []) r ≡ 0 + 0 = ap (λ b. cond b 1 0 + 0) other.0 in omega (arith, one, e, zero_times)
 
-first_makes : (p : Pic) (q : Planned) (old : Sight) → ((r : ℕ) → times q.rows r ≤ 1) → Makes p q old (sight_of q)
+-- what a plan that has its rows makes of an image
+pub makes : (p : Pic) (q : Planned) (old : Sight) → ((r : ℕ) → times q.rows r ≤ 1) → Makes p q old (renewed old q)
 unfolding rows_in firsts_in installed
-first_makes p q old once = record {
+makes p q old once = record {
   rows = refl;
   firsts = refl;
-  stay = λ r place some none low. absurd (omega (arith, some, none));
-  fresh = λ i place low small. ap (λ k. planned_word q k place) (row_here q.rows i (get_or q.rows i 0) low refl (once (get_or q.rows i 0)));
+  stay = λ r place some none small.
+      ap (λ b. cond b (planned_word q (row_at q.rows r) place) (old.word r place)) (le-ltb (row_at q.rows r) (length q.rows) (omega (arith, row_none q.rows r none)));
+  fresh = λ i place low small. (
+      let at = row_here q.rows i (get_or q.rows i 0) low refl (once (get_or q.rows i 0)) in
+      ap (λ b. cond b (planned_word q (row_at q.rows (get_or q.rows i 0)) place) (old.word (get_or q.rows i 0) place)) (lt-ltb (row_at q.rows (get_or q.rows i 0)) (length q.rows) (omega (arith, at, low)))
+      ∙ ap (λ k. planned_word q k place) at);
 }
 
-pub first_shown : (settings : Settings) (p : Pic) (state : State) → Opens p → state ≡ nothing → (x : Sight) × Shows settings p x state
-first_shown settings p state opens empty = (blank, subst (Shows settings p blank) (sym empty) (opens.2 settings blank blank_is))
+stands_by : (settings : Settings) (p : Pic) (q : Planned) (state new : State) (plan : IsPlan settings p q state new) (rows : List ℕ) (fresh : IsFresh p rows) (long : length rows ≡ q.need) (old : Sight) → Shows settings p old state
+    → Stands settings (renewed old (with_numbers q rows)) (with_numbers q rows).root new
+stands_by settings p q state new plan rows fresh long old shown =
+    let b = bound settings p q state new plan rows fresh long in
+    let x = renewed old (with_numbers q rows) in
+    let shows = b.shows old x shown (makes p (with_numbers q rows) old (λ r. omega (arith, fresh.once r))) in
+    record {
+      served = shows.served;
+      layout = layout_in (installed p (with_numbers q rows));
+      by_rows = subst (λ root. Rattle.act_super.specs.Stands.StandsBy settings x root new (layout_in (installed p (with_numbers q rows)))) b.top shows.by_rows;
+    }
 
-pub first_stands : (settings : Settings) (p : Pic) (old q : Planned) (state new : State) (rows : List ℕ) → Opens p → state ≡ nothing → IsPlan settings p old state new
-    → (IsPlan settings p old state new → IsFresh p rows → IsBound settings p q state new) → q.rows ≡ rows → rows ≡ from 2 old.need → old.need ≤ 1000 → Stands settings (sight_of q) q.root new
-unfolding blank
-first_stands settings p old q state new rows opens empty plan bind same numbered few =
+pub first_shown : (settings : Settings) (p : Pic) (state : State) → Opens p → state ≡ nothing → (x : Sight) × Shows settings p x state
+first_shown settings p state opens empty = (empty_sight, subst (Shows settings p empty_sight) (sym empty) (opens.2 settings empty_sight blank_is))
+
+pub first_stands : (settings : Settings) (p : Pic) (old q : Planned) (state new : State) (rows : List ℕ) → Opens p → state ≡ nothing → IsPlan settings p old state new → q ≡ with_numbers old rows
+    → length rows ≡ old.need → rows ≡ from 2 old.need → old.need ≤ 1000 → Stands settings (renewed empty_sight q) q.root new
+first_stands settings p old q state new rows opens empty plan is long numbered few =
     let fresh : IsFresh p rows = subst (IsFresh p) (sym numbered) (first_fresh p old.need opens.1 few) in
-    let b = bind plan fresh in
-    let makes = first_makes p q blank (λ r. omega (arith, fresh.once r, ap (λ v. times v r) same)) in
-    let shown : Shows settings p blank state = subst (Shows settings p blank) (sym empty) (opens.2 settings blank blank_is) in
-    let shows = b.shows blank (sight_of q) shown makes in
-    record { served = shows.served; layout = layout_in (installed p q); by_rows = subst (λ root. Rattle.act_super.specs.Stands.StandsBy settings (sight_of q) root new (layout_in (installed p q))) b.top shows.by_rows }
+    let shown : Shows settings p empty_sight state = subst (Shows settings p empty_sight) (sym empty) (opens.2 settings empty_sight blank_is) in
+    subst (λ (z : Planned). Stands settings (renewed empty_sight z) z.root new) (sym is) (stands_by settings p old state new plan rows fresh long empty_sight shown)

@@ -1,3 +1,4 @@
+pub mod SlotFacts
 pub mod Opening
 pub mod Leaves
 pub mod FillFacts
@@ -6,6 +7,12 @@ pub mod WalkFacts
 pub mod PlaceFacts
 pub mod SizeFacts
 pub mod BindFacts
+pub mod StayFacts
+pub mod BranchFacts
+pub mod SameWords
+pub mod KeepFacts
+pub mod PathFacts
+pub mod SubSums
 pub mod WordFacts
 pub mod BuildFacts
 pub mod StepFacts

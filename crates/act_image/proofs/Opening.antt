@@ -1,6 +1,6 @@
 -- The copy of the image of no zones.
 use Rattle.std.proofs.Common.{◌≡◌, ℕ, zero, suc, ◌+◌, ◌<◌, ◌≤◌, ◌⊎◌, inl, inr, false, true, refl, sym, ap, ◌∙◌, subst, arith, List, [], ◌∷◌, cond, Bool, nat_lt, ◌++◌, ◌≢◌, eqb, length}
-use Rattle.std.specs.List.{flat_map}
+use Rattle.std.specs.List.{flat_map, sum_by}
 use Rattle.std.proofs.lemmas.Bool.{le-ltb}
 use Rattle.std.proofs.lemmas.Bool.Decides.{eqb_tells}
 use Rattle.act_grid.specs.declared.Point.{Point}
@@ -15,7 +15,10 @@ use Rattle.act_super.specs.Nodes.{IsNode, entry_cell, first_leaf, ground_of, is_
 use Rattle.act_super.specs.Packs.{empty_pack}
 use Rattle.act_super.specs.States.{nothing}
 use Rattle.act_super.specs.Stands.{IsBlank, StandsBy, rows_in as rows_of}
-use Rattle.act_image.specs.Pics.{Opens, Pic, firsts_in, layout_in, rows_in}
+use Rattle.act_super.specs.NodeParts.{splits_near}
+use Rattle.act_probe.proofs.WayFacts.{root_is}
+use Rattle.act_image.specs.Plans.{lists_of, no_fill, put_lists}
+use Rattle.act_image.specs.Pics.{IsCopy, Opens, Pic, firsts_in, layout_in, rows_in}
 
 no_leaf : {X : Type 0} (g : Ground X) (n : ℕ) (c : Address) (p : Point) → leaf_within g n [] c p ≡ c
 unfolding leaf_within
@@ -60,7 +63,7 @@ is_one r some = by (eqb_tells 1 r) some
 
 -- the copy with the root node alone
 first_pic : Pic
-first_pic = record { root = 1; nodes = record { cell = root_cell; first = 0; count = 0 } ∷ []; lists = 0; chains = []; rows = 1 ∷ [] }
+first_pic = record { root = 1; nodes = record { cell = root_cell; first = 0; count = 0 } ∷ []; under = 0 ∷ []; lists = 0; chains = []; rows = 1 ∷ [] }
 
 first_node : (settings : Settings) (c : Address) → IsNode settings nothing c → (layout_in first_pic).node c ≡ 1
 unfolding first_pic layout_in
@@ -92,6 +95,27 @@ first_stands settings x blank = record {
   low = λ r some. let one = is_one r (rw blank.rows at some) in rw one (omega arith, omega arith);
 }
 
+no_lists : (leaves : List Address) → put_lists [] no_fill [] leaves ≡ []
+no_lists [] = refl
+no_lists (leaf ∷ leaves) = no_lists leaves
+
+none_listed : (settings : Settings) (c : Address) → lists_of settings nothing c ≡ []
+unfolding lists_of
+none_listed settings c = no_lists (node_leaves settings nothing c)
+
+first_copy : (settings : Settings) → IsCopy settings first_pic nothing (root_cell ∷ [])
+unfolding first_pic splits_near
+first_copy settings = record {
+  same = λ f. ap (sum_by f) (sym (one_node settings));
+  are = (record { cell = root_is; step = refl; split = inl refl }, tt);
+  queue = refl;
+  nodes = ap (λ n. record { cell = root_cell; first = 0; count = n } ∷ []) (sym (ap length (none_listed settings root_cell)));
+  under = refl;
+  lists = sym (ap (λ v. length (v ++ [])) (none_listed settings root_cell));
+  chains = refl;
+  all = refl;
+}
+
 first_opens : Opens first_pic
 unfolding first_pic rows_in firsts_in
 first_opens = (
@@ -104,14 +128,17 @@ first_opens = (
       small = λ k d h. absurd (omega (arith, h));
       keys = λ k d h. absurd (omega (arith, h));
     };
+    cells = root_cell ∷ [];
+    copy = first_copy settings;
+    lists = λ c i place node within small. let none = ap length (first_lists settings c node) in absurd (omega (arith, within, none));
     rows = blank.rows;
     firsts = blank.firsts;
     by_rows = first_stands settings x blank;
   },
 )
 
-pub opens : (p : Pic) → p.root ≡ 1 → p.nodes ≡ record { cell = root_cell; first = 0; count = 0 } ∷ [] → p.lists ≡ 0 → p.chains ≡ [] → p.rows ≡ 1 ∷ [] → Opens p
+pub opens : (p : Pic) → p.root ≡ 1 → p.nodes ≡ record { cell = root_cell; first = 0; count = 0 } ∷ [] → p.under ≡ 0 ∷ [] → p.lists ≡ 0 → p.chains ≡ [] → p.rows ≡ 1 ∷ [] → Opens p
 unfolding first_pic
-opens p root nodes lists chains rows =
-    let same : first_pic ≡ p = λ i. record { root = sym root i; nodes = sym nodes i; lists = sym lists i; chains = sym chains i; rows = sym rows i } in
+opens p root nodes under lists chains rows =
+    let same : first_pic ≡ p = λ i. record { root = sym root i; nodes = sym nodes i; under = sym under i; lists = sym lists i; chains = sym chains i; rows = sym rows i } in
     subst Opens same first_opens

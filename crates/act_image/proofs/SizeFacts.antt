@@ -1,5 +1,5 @@
 -- A plan of all rows has as many as the state takes.
-use Rattle.std.proofs.Common.{◌≡◌, ℕ, ◌+◌, ◌≤◌, refl, ap, ◌∙◌, subst, arith, List, [], ◌∷◌, length, take, drop}
+use Rattle.std.proofs.Common.{◌≡◌, ℕ, ◌+◌, ◌^◌, ◌<◌, ◌≤◌, refl, sym, ap, ◌∙◌, subst, arith, List, [], ◌∷◌, length, get_or, take, drop}
 use Rattle.std.specs.List.{AllByRecursion as Each, flat_map, sum_by}
 use Rattle.std.proofs.lemmas.List.{drop_all, length-append, take_all}
 use Rattle.std.proofs.lemmas.List.Sums.{sum_by-cons}
@@ -14,8 +14,12 @@ use Rattle.act_probe.proofs.EntryFacts.{node_deep}
 use Rattle.act_probe.proofs.WayFacts.{first_in}
 use Rattle.act_image.specs.declared.chains.Chains.{Chains}
 use Rattle.act_image.specs.declared.walk.Nodes.{Nodes}
-use Rattle.act_image.specs.Plans.{IsChains, IsWalked, chain_rows_from, lists_of, no_fill, nodes_from, places_from, rows_from, spots_from}
-use Rattle.act_image.specs.Pics.{HaveOwnKeys, IsPlan, IsWhole, Pic, Planned, rows_in}
+use Rattle.act_image.specs.Plans.{IsChains, IsWalked, chain_rows_from, lists_of, no_fill, nodes_from, places_from, rows_from, spots_from, under_of}
+use Rattle.act_image.specs.declared.slots.Slot.TheVariants as slot
+use Rattle.act_image.specs.Slots.{kept_of, new_places}
+use Rattle.act_image.proofs.SlotFacts.{all_new, as_many_new, get_new, long_new, new_at, none_kept}
+use Rattle.act_base.specs.Counting.{times}
+use Rattle.act_image.specs.Pics.{HaveOwnKeys, IsPlan, IsWhole, IsWholePlan, Pic, Planned, planned_word, rows_in, with_numbers}
 use Rattle.act_image.proofs.Leaves.{LeafIn, each_mono, first_leaf_is, leaves_are, node_reached}
 use Rattle.act_image.proofs.PackFacts.{FewRefs, IsFilled, all_filled}
 use Rattle.act_image.proofs.PlaceFacts.{rows_length, spots_length}
@@ -73,9 +77,9 @@ module _ (settings : Settings) (state : State) (served : IsServed settings state
       )
 
 -- what was walked, and the chains, make a plan of all rows
-pub walked_whole : (settings : Settings) (state : State) (nodes : Nodes) (chains : Chains) (q : Planned) → IsWalked settings state nodes → IsChains state.zones chains → q.nodes ≡ nodes.places.items → q.spots ≡ nodes.spots.items
-    → q.lists ≡ nodes.lists.items → q.chains ≡ chains.places.items → q.bodies ≡ chains.bodies.items → q.chain_rows ≡ chains.rows.items → IsWhole settings q state nodes.cells.items
-walked_whole settings state nodes chains q w c a b d e f g =
+pub walked_whole : (settings : Settings) (state : State) (nodes : Nodes) (chains : Chains) (q : Planned) → IsWalked settings state nodes → IsChains state.zones chains → q.nodes ≡ nodes.places.items → q.under ≡ nodes.under.items → q.list_rows ≡ length nodes.lists.items → q.spots ≡ nodes.spots.items
+    → q.lists ≡ nodes.lists.items → q.chains ≡ chains.places.items → q.first_body ≡ 0 → q.bodies ≡ chains.bodies.items → q.chain_rows ≡ chains.rows.items → IsWhole settings q state nodes.cells.items
+walked_whole settings state nodes chains q w c a u n b d e first f g =
     let cells = nodes.cells.items in
     let all : take (length cells) cells ≡ cells = take_all (length cells) cells (omega arith) in
     let none : drop (length cells) cells ≡ [] = drop_all (length cells) cells (omega arith) in
@@ -87,16 +91,44 @@ walked_whole settings state nodes chains q w c a b d e f g =
       are = w.are;
       queue = w.queue ∙ ap (λ v. root_cell ∷ flat_map (node_children settings state) v) all;
       nodes = a ∙ w.places ∙ ap (places_from settings state 0) all;
+      under = u ∙ w.under ∙ ap (under_of settings state) all;
+      list_rows = n ∙ sym (ap length d);
       spots = b ∙ w.spots ∙ ap (spots_from settings state 0 1) all;
       lists = d ∙ w.lists ∙ ap (flat_map (lists_of settings state)) all;
       chains = e ∙ c.places;
+      first_body = first;
       bodies = f ∙ c.bodies;
       chain_rows = g ∙ c.rows;
     }
 
 -- and it is a plan for the state
-pub whole_plan : (settings : Settings) (p : Pic) (q : Planned) (state new : State) (cells : List Address) → IsWhole settings q new cells → IsServed settings new → HaveOwnKeys new.zones → q.gone ≡ rows_in p
-    → q.need ≡ length q.spots + length q.lists + length q.chain_rows → IsPlan settings p q state new
-whole_plan settings p q state new cells w served keys gone need =
+pub whole_plan : (settings : Settings) (p : Pic) (q : Planned) (n : ℕ) (state new : State) (cells : List Address) → IsWhole settings q new cells → IsServed settings new → HaveOwnKeys new.zones
+    → ((r : ℕ) → 0 < times (rows_in p) r → (0 < r) × (r < 2 ^ 24)) → q.gone ≡ rows_in p → q.slots ≡ all_new n → length q.slots ≡ length q.spots + length q.lists + length q.chain_rows
+    → q.need ≡ length (new_places 0 q.slots) → IsPlan settings p q state new × (q.need ≡ size_of settings new)
+whole_plan settings p q n state new cells w served keys low gone slots all need =
     let size = whole_sized settings new served q cells w in
-    record { few = omega (arith, need, size); need = need; served = served; keys = keys; cells = cells; whole = w; gone = gone }
+    let kept : kept_of q.slots ≡ [] = ap kept_of slots ∙ none_kept n in
+    let few = ap length slots ∙ long_new n in
+    let leads : IsWholePlan settings p q state new = record {
+      need = need;
+      all = all;
+      served = served;
+      keys = keys;
+      cells = cells;
+      whole = w;
+      low = low;
+      gone = λ r. omega (arith, ap (λ v. times v r) kept, ap (λ v. times v r) gone);
+      count = omega (arith, ap length kept, ap length gone);
+      stay = λ old rows k r place shown fresh long is small. (let e : slot.New ≡ slot.Kept r = sym (get_new n k) ∙ ap (λ v. get_or v k slot.New) (sym slots) ∙ is in absurd (cc));
+    } in (
+      record { whole = q; leads = leads; trimmed = record { need = refl; nodes = refl; under = refl; list_rows = refl; chains = refl; slots = refl; gone = refl; words = same } },
+      omega (arith, need, ap (λ v. length (new_places 0 v)) slots, as_many_new n 0, few, all, size),
+    )
+  where
+    -- each row is new, so the i-th new row is the i-th of all
+    same : (rows : List ℕ) (i place : ℕ) → length rows ≡ q.need → i < q.need → place < 256 → planned_word (with_numbers q rows) i place ≡ planned_word (with_numbers q rows) (get_or (new_places 0 q.slots) i 0) place
+    same rows i place long low small =
+        let many = need ∙ ap (λ v. length (new_places 0 v)) slots ∙ as_many_new n 0 in
+        let at : get_or (new_places 0 q.slots) i 0 ≡ 0 + i = ap (λ v. get_or (new_places 0 v) i 0) slots ∙ new_at n 0 i (omega (arith, low, many)) in
+        let zero_i : 0 + i ≡ i = omega arith in
+        ap (λ k. planned_word (with_numbers q rows) k place) (sym (at ∙ zero_i))

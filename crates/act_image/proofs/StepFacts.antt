@@ -1,7 +1,7 @@
 -- The walk over all nodes, one node a step.
 use Rattle.std.proofs.Common.{◌≡◌, ℕ, zero, suc, ◌+◌, ◌%◌, ◌<◌, ◌≤◌, sym, ap, ◌∙◌, subst, arith, List, [], ◌∷◌, ◌++◌, length, get_or, take, drop, inr}
 use Rattle.std.specs.List.{AllByRecursion as Each, flat_map, sum_by}
-use Rattle.std.proofs.lemmas.List.{append-nil, length-append, take-append-le, take_more, drop-append-le, drop_more}
+use Rattle.std.proofs.lemmas.List.{append-nil, length-append, take-append-le, take_more, drop-append-le, drop_more, map-append}
 use Rattle.std.proofs.lemmas.List.Concat.{flat_map-append}
 use Rattle.std.proofs.lemmas.List.Sums.{sum_by-append, sum_by-cons}
 use Rattle.act_grid.specs.declared.Settings.{Settings}
@@ -10,7 +10,7 @@ use Rattle.act_super.specs.declared.entry.State.{State}
 use Rattle.act_super.specs.Nodes.{IsNode, ground_of, node_children, node_leaves}
 use Rattle.act_probe.proofs.EntryFacts.{node_deep, root_node}
 use Rattle.act_image.specs.declared.walk.Nodes.{Nodes}
-use Rattle.act_image.specs.Plans.{IsLeafOf, IsWalk, lists_of, nodes_from, places_from, spots_from, spots_of}
+use Rattle.act_image.specs.Plans.{IsLeafOf, IsWalk, lists_of, nodes_from, places_from, spots_from, spots_of, under_of}
 use Rattle.act_image.proofs.Leaves.{LeafIn, SplitIn, each_append, each_mono, leaves_are, node_reached, split_parted, splits_are}
 use Rattle.act_image.proofs.WalkFacts.{node_first, nodes_are_under, sum_flat}
 
@@ -75,8 +75,8 @@ module _ (settings : Settings) (state : State) where
       ap (λ v. spots_of settings state base slot d ∷ v) (spots_push (base + length (lists_of settings state d)) (slot + length (node_children settings state d)) cells c
       ∙ (λ i. spots_from settings state (base + length (lists_of settings state d)) (slot + length (node_children settings state d)) cells ++ spots_of settings state (e i) (f i) c ∷ []))
 
-  pub root_walk : (nodes : Nodes) → nodes.cells.items ≡ root_cell ∷ [] → nodes.places.items ≡ [] → nodes.spots.items ≡ [] → nodes.lists.items ≡ [] → IsWalk settings state 0 nodes
-  root_walk nodes cells places spots lists = record {
+  pub root_walk : (nodes : Nodes) → nodes.cells.items ≡ root_cell ∷ [] → nodes.places.items ≡ [] → nodes.under.items ≡ [] → nodes.spots.items ≡ [] → nodes.lists.items ≡ [] → IsWalk settings state 0 nodes
+  root_walk nodes cells places under spots lists = record {
     within = omega arith;
     same = λ f. (
         let one = sum_by-cons (λ c. sum_by f (nodes_from settings state c)) root_cell [] in
@@ -86,6 +86,7 @@ module _ (settings : Settings) (state : State) where
     are = subst (Each (IsNode settings state)) (sym cells) (root_node settings state, tt);
     queue = cells;
     places = places;
+    under = under;
     spots = spots;
     lists = lists;
   }
@@ -99,9 +100,10 @@ module _ (settings : Settings) (state : State) where
 
     pub next_walk : new.cells.items ≡ old.cells.items ++ node_children settings state c
         → new.places.items ≡ old.places.items ++ record { cell = c; first = length old.lists.items; count = length (lists_of settings state c) } ∷ []
+        → new.under.items ≡ old.under.items ++ length (node_children settings state c) ∷ []
         → new.spots.items ≡ old.spots.items ++ spots_of settings state (length old.lists.items) (length old.cells.items) c ∷ []
         → new.lists.items ≡ old.lists.items ++ lists_of settings state c → IsWalk settings state (k + 1) new
-    next_walk cells places spots lists =
+    next_walk cells places under spots lists =
         let children = node_children settings state c in
         let taken : take (k + 1) new.cells.items ≡ take k old.cells.items ++ c ∷ [] =
         ap (take (k + 1)) cells ∙ take-append-le (k + 1) old.cells.items children (omega (arith, low)) ∙ take_more old.cells.items k root_cell low ∙ ap (λ v. take k old.cells.items ++ v ∷ []) is in
@@ -131,6 +133,8 @@ module _ (settings : Settings) (state : State) where
               cells ∙ ap (λ v. v ++ children) h.queue ∙ ap (λ v. root_cell ∷ v) (sym more));
           places = places ∙ ap (λ v. v ++ record { cell = c; first = length old.lists.items; count = length (lists_of settings state c) } ∷ []) h.places
               ∙ sym (ap (places_from settings state 0) taken ∙ places_push 0 done c ∙ ap (λ n. places_from settings state 0 done ++ record { cell = c; first = n; count = length (lists_of settings state c) } ∷ []) base);
+          under = under ∙ ap (λ v. v ++ length (node_children settings state c) ∷ []) h.under
+              ∙ sym (ap (under_of settings state) taken ∙ map-append (λ d. length (node_children settings state d)) done (c ∷ []));
           spots = spots ∙ ap (λ v. v ++ spots_of settings state (length old.lists.items) (length old.cells.items) c ∷ []) h.spots
               ∙ sym (ap (spots_from settings state 0 1) taken ∙ spots_push 0 1 done c ∙ (λ i. spots_from settings state 0 1 done ++ spots_of settings state (base i) (slot i) c ∷ []));
           lists = lists ∙ ap (λ v. v ++ lists_of settings state c) h.lists

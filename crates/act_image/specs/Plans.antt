@@ -154,6 +154,10 @@ spots_from settings state base slot (c ∷ cells) =
     spots_of settings state base slot c
     ∷ spots_from settings state (base + length (lists_of settings state c)) (slot + length (node_children settings state c)) cells
 
+-- how many child nodes each node has
+abbrev pub under_of : Settings → State → List Address → List ℕ
+under_of settings state cells = map (λ c. length (node_children settings state c)) cells
+
 -- ---- the walk over all nodes
 -- a leaf of a node of this level
 pub record IsLeafOf (level : ℕ) (leaf : Address) : Type 0 where
@@ -175,6 +179,7 @@ pub record IsWalk (settings : Settings) (state : State) (k : ℕ) (nodes : Nodes
   pub are : AllByRecursion (IsNode settings state) nodes.cells.items
   pub queue : nodes.cells.items ≡ root_cell ∷ flat_map (node_children settings state) (take k nodes.cells.items)
   pub places : nodes.places.items ≡ places_from settings state 0 (take k nodes.cells.items)
+  pub under : nodes.under.items ≡ under_of settings state (take k nodes.cells.items)
   pub spots : nodes.spots.items ≡ spots_from settings state 0 1 (take k nodes.cells.items)
   pub lists : nodes.lists.items ≡ flat_map (lists_of settings state) (take k nodes.cells.items)
 

@@ -1,5 +1,5 @@
 -- The words of the rows of a plan, which name rows by where they stand among the rows of their kind.
-use Rattle.std.specs.Prelude.{ℕ, zero, suc, ◌+◌, ◌-◌, ◌*◌, ◌^◌, ◌==◌, ◌&&◌, Bool, cond, nat_le, nat_lt, min, List, [], ◌∷◌, slice_index, slice_index_or}
+use Rattle.std.specs.Prelude.{ℕ, zero, suc, ◌+◌, ◌-◌, ◌*◌, ◌^◌, ◌==◌, ◌&&◌, Bool, cond, nat_le, nat_lt, min, List, [], ◌∷◌, length, slice_index, slice_index_or}
 use Rattle.std.specs.Option.{option_map}
 use Rattle.act_entry.specs.declared.reference.Ref.{Ref}
 use Rattle.act_entry.specs.declared.entry.Entry.{Entry}
@@ -72,12 +72,13 @@ abbrev pub chain_word : Numbers → ChainPlace → List ℕ → ℕ → ℕ → 
 chain_word n chain body row zero = chain_head n chain row
 chain_word n chain body row (suc place) = slice_index body (row * 255 + place)
 
--- the word of the i-th row at a place
-unfoldable pub word_of : Numbers → List (List Spot) → List (List ListWord) → List ChainPlace → List (List ℕ) → List ChainRow → ℕ → ℕ → ℕ
-word_of n spots lists chains bodies rows i place =
-    cond (nat_lt i n.nodes)
+-- the word of the i-th of some rows at a place: first those of nodes, then those of lists, then those of chains. The bodies
+-- are those of the chains from one on
+unfoldable pub word_of : Numbers → List (List Spot) → List (List ListWord) → List ChainPlace → ℕ → List (List ℕ) → List ChainRow → ℕ → ℕ → ℕ
+word_of n spots lists chains from bodies rows i place =
+    cond (nat_lt i (length spots))
     (entry_word (placed_entry n (entry_in (slice_index_or spots i []) place)))
-    (cond (nat_lt i (n.nodes + n.lists))
-    (placed_word n (slice_index_or (slice_index_or lists (i - n.nodes) []) place (list.Count 0)))
-    (let r = slice_index_or rows (i - n.nodes - n.lists) no_row in
-    chain_word n (slice_index_or chains r.chain no_chain) (slice_index_or bodies r.chain []) r.row place))
+    (cond (nat_lt i (length spots + length lists))
+    (placed_word n (slice_index_or (slice_index_or lists (i - length spots) []) place (list.Count 0)))
+    (let r = slice_index_or rows (i - length spots - length lists) no_row in
+    chain_word n (slice_index_or chains r.chain no_chain) (slice_index_or bodies (r.chain - from) []) r.row place))

@@ -5,6 +5,7 @@ use crate::chains::ChainPlace;
 use crate::fits::fits;
 use crate::nodes::NodePlace;
 use crate::plan::Plan;
+use crate::slots::Slot;
 use crate::walk::Nodes;
 use act_grid::{Cell, NoMemory};
 use act_super::{Next, Super};
@@ -15,6 +16,8 @@ use std::marker::Model;
 #[derive(Drop)]
 pub struct Image {
     nodes: Vec<NodePlace>,
+    // How many child nodes each node has.
+    under: Vec<u32>,
     // How many list rows there are.
     lists: u32,
     chains: Vec<ChainPlace>,
@@ -28,7 +31,7 @@ impl Model for Image {
 
     ghost Value = { Pic };
 
-    ghost view = { λ i. record { root = slice_index i.rows.items 0; nodes = i.nodes.items; lists = i.lists; chains = i.chains.items; rows = i.rows.items } };
+    ghost view = { λ i. record { root = slice_index i.rows.items 0; nodes = i.nodes.items; under = i.under.items; lists = i.lists; chains = i.chains.items; rows = i.rows.items } };
 }
 
 impl Image {
@@ -49,10 +52,13 @@ impl Image {
             first: 0,
             count: 0,
         })?;
+        let mut under = Vec::new(alloc);
+        under.push(0)?;
         let mut rows = Vec::new(alloc);
         rows.push(1)?;
         Ok(Image {
             nodes,
+            under,
             lists: 0,
             chains: Vec::new(alloc),
             rows,
@@ -69,19 +75,12 @@ impl Image {
         change_is_sound(next);
         let chains = chains_after(alloc, state, next)?;
         let nodes = Nodes::walk(alloc, state, next, &chains)?;
-        let need = fits(nodes.spots.len())? + fits(nodes.lists.len())? + fits(chains.rows.len())?;
-        let rows = Vec::from_elem(alloc, 0u32, need as usize)?;
+        let lists = fits(nodes.lists.len())?;
+        let count = fits(nodes.spots.len())? + lists + fits(chains.rows.len())?;
+        let slots = Vec::from_elem(alloc, Slot::New, count as usize)?;
         let gone = Vec::from_slice(alloc, self.rows.as_slice())?;
-        Ok(Plan {
-            nodes: nodes.places,
-            spots: nodes.spots,
-            lists: nodes.lists,
-            chains: chains.places,
-            bodies: chains.bodies,
-            chain_rows: chains.rows,
-            rows,
-            gone,
-        })
+        let plan = Plan::from_parts(alloc, nodes, lists, chains, 0, slots, gone)?;
+        Ok(plan)
     }
 
     /// Makes this image the new one of a plan that was made on it and has its rows. It takes no memory.
@@ -91,14 +90,16 @@ impl Image {
     {
         let Plan {
             nodes,
-            lists,
+            under,
+            list_rows,
             chains,
-            rows,
+            all,
             ..
         } = plan;
-        self.lists = lists.len() as u32;
+        self.lists = list_rows;
         self.nodes = nodes;
+        self.under = under;
         self.chains = chains;
-        self.rows = rows;
+        self.rows = all;
     }
 }

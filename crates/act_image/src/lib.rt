@@ -23,6 +23,7 @@ mod image;
 mod lists;
 mod nodes;
 mod plan;
+mod slots;
 mod spots;
 #[cfg(test)]
 mod tests;

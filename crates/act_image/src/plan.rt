@@ -3,47 +3,67 @@
 ghost use Rattle.std.specs.Prelude.{◌≡◌};
 ghost use Rattle.act_image.specs.Words.{as_row};
 
-use crate::chains::{Body, ChainPlace, ChainRow};
+use crate::chains::{Body, ChainPlace, ChainRow, Chains};
 use crate::lists::{ListRow, ListWord};
 use crate::nodes::NodePlace;
+use crate::slots::{Slot, count_new, put_rows};
 use crate::spots::Spots;
+use crate::walk::Nodes;
 use act_entry::{Entry, Ref, chain, encode, pack};
+use act_grid::NoMemory;
+use std::alloc::Global;
 use std::marker::Model;
 
-/// What shall stand in the rows of a new image.
+/// What shall stand in the rows of a new image. It holds the words of the new rows alone.
 #[derive(Drop)]
 pub struct Plan {
     pub(crate) nodes: Vec<NodePlace>,
+    // How many child nodes each node has.
+    pub(crate) under: Vec<u32>,
+    // How many list rows there are.
+    pub(crate) list_rows: u32,
+    pub(crate) chains: Vec<ChainPlace>,
+    // What stands in the new rows of nodes, in those of lists and in those of chains. The bodies are those of the chains from
+    // one on.
     pub(crate) spots: Vec<Spots>,
     pub(crate) lists: Vec<ListRow>,
-    pub(crate) chains: Vec<ChainPlace>,
+    pub(crate) first_body: u32,
     pub(crate) bodies: Vec<Body>,
     pub(crate) chain_rows: Vec<ChainRow>,
-    // The numbers of the rows, as soon as the plan is bound: those of nodes, then those of lists, then those of chains.
+    // All rows: those of nodes, then those of lists, then those of chains.
+    pub(crate) slots: Vec<Slot>,
+    // The numbers of all rows, and of the new ones, as soon as the plan is bound.
+    pub(crate) all: Vec<u32>,
     pub(crate) rows: Vec<u32>,
     pub(crate) gone: Vec<u32>,
 }
 
 impl Model for Plan {
-    ghost use Rattle.std.specs.Prelude.{◌≡◌, ◌+◌, ◌<◌, ◌^◌, length, slice_index};
+    ghost use Rattle.std.specs.Prelude.{length, slice_index};
+    ghost use Rattle.act_image.specs.Slots.{IsLaidOut};
     ghost use Rattle.act_image.specs.Pics.{Planned};
 
     ghost Value = { Planned };
 
     ghost view = { λ p. record {
       need = length p.rows.items;
-      root = slice_index p.rows.items 0;
+      root = slice_index p.all.items 0;
       nodes = p.nodes.items;
+      under = p.under.items;
+      list_rows = p.list_rows;
       spots = p.spots.items;
       lists = p.lists.items;
       chains = p.chains.items;
+      first_body = p.first_body;
       bodies = p.bodies.items;
       chain_rows = p.chain_rows.items;
+      slots = p.slots.items;
+      all = p.all.items;
       rows = p.rows.items;
       gone = p.gone.items;
     } };
 
-    ghost invariant = { λ p. (length p.rows.items ≡ length p.spots.items + length p.lists.items + length p.chain_rows.items) × (length p.rows.items < 2 ^ 32) };
+    ghost invariant = { λ p. IsLaidOut p.slots.items p.all.items p.rows.items };
 }
 
 // A row number that may stand in a word; row 1 stands for any other.
@@ -55,13 +75,47 @@ fn row_in(row: u32) -> u32
 }
 
 impl Plan {
-    ghost use Rattle.std.specs.Prelude.{◌≡◌, ◌+◌, ◌<◌, [], length, slice_index, slice_index_or};
+    ghost use Rattle.std.specs.Prelude.{◌≡◌, ◌+◌, ◌-◌, ◌<◌, ◌^◌, [], IfOk, length, slice_index, slice_index_or};
     ghost use Rattle.act_entry.specs.Entries.{IsEntry, entry_word};
     ghost use Rattle.act_entry.specs.References.{IsRow};
     ghost use Rattle.act_image.specs.Words.{chain_head, chain_word, entry_in, no_chain, no_row, placed_entry, placed_ref, placed_word};
     ghost use Rattle.act_grid.specs.declared.Settings.{Settings};
     ghost use Rattle.act_super.specs.declared.entry.State.{State};
-    ghost use Rattle.act_image.specs.Pics.{IsBound, IsFresh, IsPlan, Pic, numbers_of, planned_word};
+    ghost use Rattle.act_image.specs.Pics.{IsBound, IsFresh, IsPlan, Pic, numbers_of, planned_word, with_numbers};
+    ghost use Rattle.act_image.specs.Made.{IsMade};
+
+    /// A plan of these nodes and chains and so many list rows, whose rows stay or come as the slots say. The bodies are those
+    /// of the chains from one on.
+    pub(crate) fn from_parts(
+        alloc: Global,
+        nodes: Nodes,
+        list_rows: u32,
+        chains: Chains,
+        first_body: u32,
+        slots: Vec<Slot>,
+        gone: Vec<u32>,
+    ) -> Result<Plan, NoMemory>
+        requires { length slots.items < 2 ^ 32 }
+        ensures { IfOk result (IsMade nodes list_rows chains first_body slots.items gone.items) }
+    {
+        let all = Vec::from_elem(alloc, 0u32, slots.len())?;
+        let rows = Vec::from_elem(alloc, 0u32, count_new(slots.as_slice()))?;
+        Ok(Plan {
+            nodes: nodes.places,
+            under: nodes.under,
+            list_rows,
+            chains: chains.places,
+            spots: nodes.spots,
+            lists: nodes.lists,
+            first_body,
+            bodies: chains.bodies,
+            chain_rows: chains.rows,
+            slots,
+            all,
+            rows,
+            gone,
+        })
+    }
 
     /// How many new rows the new image has.
     pub fn need(&self) -> u32
@@ -75,7 +129,9 @@ impl Plan {
         requires { length rows.now ≡ self.old.need }
         ensures bound { (settings : Settings) (p : Pic) (state new : State) → IsPlan settings p self.old state new → IsFresh p rows.now → IsBound settings p self.new state new }
         ensures rows { self.new.rows ≡ rows.now }
+        ensures given { self.new ≡ with_numbers self.old rows.now }
     {
+        put_rows(&mut self.all, self.slots.as_slice(), rows);
         self.rows.as_mut_slice().copy_from_slice(rows);
     }
 
@@ -83,11 +139,7 @@ impl Plan {
     pub fn root(&self) -> u32
         ensures { result ≡ self.now.root }
     {
-        if self.rows.is_empty() {
-            0
-        } else {
-            self.rows[0]
-        }
+        if self.all.is_empty() { 0 } else { self.all[0] }
     }
 
     /// The number of a new row, counted from 0.
@@ -103,35 +155,43 @@ impl Plan {
         requires { i < self.now.need }
         ensures { result ≡ planned_word self.now i place }
     {
-        let i = i as usize;
+        let k = i as usize;
         let nodes = self.spots.len();
         let lists = self.lists.len();
-        if i < nodes {
-            self.node_word(i, place)
-        } else if i < nodes + lists {
-            self.list_word(i - nodes, place)
+        if k < nodes {
+            self.node_word(k, place)
+        } else if k < nodes + lists {
+            self.list_word(k - nodes, place)
         } else {
-            self.chain_word(i - nodes - lists, place)
+            self.chain_word(k - nodes - lists, place)
         }
     }
 
-    // The number of a row, by where it stands among all new rows.
+    // The number of a row, by where it stands among all rows.
     fn number(&self, k: usize) -> u32
-        ensures is { result ≡ as_row (slice_index self.now.rows k) }
+        ensures is { result ≡ as_row (slice_index self.now.all k) }
         ensures row { IsRow result }
     {
-        if k < self.rows.len() {
-            row_in(self.rows[k])
+        if k < self.all.len() {
+            row_in(self.all[k])
         } else {
             1
         }
+    }
+
+    // How many rows stand before those of chains.
+    fn chains_from(&self) -> usize
+        ensures is { result ≡ length self.now.nodes + self.now.list_rows }
+        ensures low { result < 2 ^ 63 + 2 ^ 32 }
+    {
+        self.nodes.len() + self.list_rows as usize
     }
 
     fn placed_ref(&self, r: Ref) -> Ref
         ensures is { result ≡ placed_ref (numbers_of self.now) r }
         ensures row { IsRow result.row }
     {
-        let row = self.number(self.spots.len() + self.lists.len() + r.row as usize);
+        let row = self.number(self.chains_from() + r.row as usize);
         Ref { row, hit: r.hit }
     }
 
@@ -145,7 +205,7 @@ impl Plan {
             Entry::One(r) => Entry::One(self.placed_ref(r)),
             Entry::Two(a, b) => Entry::Two(self.placed_ref(a), self.placed_ref(b)),
             Entry::Table { row, place } => Entry::Table {
-                row: self.number(self.spots.len() + row as usize),
+                row: self.number(self.nodes.len() + row as usize),
                 place: place.min(253),
             },
         }
@@ -180,14 +240,24 @@ impl Plan {
     }
 
     fn chain_word(&self, k: usize, place: u8) -> u64
-        requires { k < length self.now.chain_rows }
-        ensures { let r = slice_index_or self.now.chain_rows k no_row in result ≡ chain_word (numbers_of self.now) (slice_index_or self.now.chains r.chain no_chain) (slice_index_or self.now.bodies r.chain []) r.row place }
+        ensures { let r = slice_index_or self.now.chain_rows k no_row in result ≡ chain_word (numbers_of self.now) (slice_index_or self.now.chains r.chain no_chain) (slice_index_or self.now.bodies (r.chain - self.now.first_body) []) r.row place }
     {
-        let r = self.chain_rows[k];
+        let r = self.chain_row(k);
         if place == 0 {
             self.chain_head(self.chain(r.chain), r.row)
         } else {
-            self.body_word(r.chain, r.row as usize * 255 + (place as usize - 1))
+            let body = r.chain.saturating_sub(self.first_body);
+            self.body_word(body, r.row as usize * 255 + (place as usize - 1))
+        }
+    }
+
+    fn chain_row(&self, k: usize) -> ChainRow
+        ensures { result ≡ slice_index_or self.now.chain_rows k no_row }
+    {
+        if k < self.chain_rows.len() {
+            self.chain_rows[k]
+        } else {
+            ChainRow { chain: 0, row: 0 }
         }
     }
 
@@ -197,7 +267,7 @@ impl Plan {
     {
         let after = row as usize + 1;
         let next = if after < at.count as usize {
-            self.number(self.spots.len() + self.lists.len() + (at.first as usize + after))
+            self.number(self.chains_from() + (at.first as usize + after))
         } else {
             0
         };

@@ -6,7 +6,7 @@ ghost use Rattle.act_grid.specs.declared.Settings.{Settings as Limits};
 ghost use Rattle.act_super.specs.declared.entry.State.{State};
 ghost use Rattle.act_super.specs.States.{IsFor, after, nothing};
 ghost use Rattle.act_super.specs.Stands.{Stands};
-ghost use Rattle.act_image.specs.Pics.{row_at, sight_of};
+ghost use Rattle.act_image.specs.Pics.{empty_sight, renewed, row_at};
 
 use crate::{Image, Plan};
 use act_base::Steps;
@@ -19,33 +19,37 @@ use std::marker::Brand;
 use std::sync::ledger::{Blank, Ledger};
 use std::test::Fail;
 
-/// The words of a plan that has its rows.
+/// The words of the first image of a plan that has its rows.
 #[derive(Drop)]
 struct Stored {
     plan: Plan,
 }
 
 impl Words for Stored {
-    ghost image = { λ s. sight_of s.plan };
+    ghost image = { λ s. renewed empty_sight s.plan };
 
     fn word<L: Ledger>(&mut self, row: u32, place: u8, steps: &mut Steps<L>) -> u64 {
         steps.tick();
-        self.plan.word(at(&self.plan, row), place)
+        let i = at(&self.plan, row);
+        if i < self.plan.need() {
+            self.plan.word(i, place)
+        } else {
+            0
+        }
     }
 }
 
-// Where a row stands among the new ones.
+// Where a row stands among the new ones, and their number where it isn't new.
 fn at(plan: &Plan, row: u32) -> u32
-    requires { 0 < times plan.now.rows row }
-    ensures is { result ≡ row_at plan.now.rows row }
-    ensures within { result < plan.now.need }
+    ensures { result ≡ row_at plan.now.rows row }
 {
-    for i in 0..plan.rows.len() {
-        if plan.rows[i] == row {
-            return i as u32;
+    let need = plan.need();
+    for i in 0..need {
+        if plan.row(i) == row {
+            return i;
         }
     }
-    unreachable!()
+    need
 }
 
 /// The numbers from 2 on.
@@ -64,7 +68,7 @@ fn numbers(alloc: Global, count: u32) -> Result<Vec<u32>, AllocError>
 fn first_image(alloc: Global, state: &Super, next: &Next) -> Result<Stored, NoMemory>
     requires empty { state.now.state ≡ nothing }
     requires prepared { IsFor state.now.settings state.now.state next.now }
-    ensures { IfOk result (λ s. Stands state.now.settings (sight_of s.plan) s.plan.root (after state.now.settings state.now.state next.now.entry)) }
+    ensures { IfOk result (λ s. Stands state.now.settings (renewed empty_sight s.plan) s.plan.root (after state.now.settings state.now.state next.now.entry)) }
 {
     let image = Image::new(alloc)?;
     let mut plan = image.plan_whole(alloc, state, next)?;
@@ -81,7 +85,7 @@ fn first_image(alloc: Global, state: &Super, next: &Next) -> Result<Stored, NoMe
 fn found<L: Ledger>(blank: Blank, words: &mut Stored, p: Point) -> (u32, u64)
     requires name { blank.name ≡ L.name }
     requires parts { (blank.parts ≡ L.parts) × (0 < L.parts) }
-    requires stands { (settings : Limits) × (state : State) × Stands settings (sight_of words.old.plan) words.old.plan.root state }
+    requires stands { (settings : Limits) × (state : State) × Stands settings (renewed empty_sight words.old.plan) words.old.plan.root state }
     ensures { words.new ≡ words.old }
 {
     let mut steps = Steps::<L>::new(blank);
@@ -94,7 +98,7 @@ fn found<L: Ledger>(blank: Blank, words: &mut Stored, p: Point) -> (u32, u64)
 
 /// The same with a count of its own.
 fn look(words: &mut Stored, p: Point) -> (u32, u64)
-    requires { (settings : Limits) × (state : State) × Stands settings (sight_of words.old.plan) words.old.plan.root state }
+    requires { (settings : Limits) × (state : State) × Stands settings (renewed empty_sight words.old.plan) words.old.plan.root state }
     ensures { words.new ≡ words.old }
 {
     found::<Brand>(Blank::new(1), words, p)

@@ -21,11 +21,12 @@ use act_super::{Next, Super, ZoneRef};
 use std::alloc::{AllocError, Global};
 
 /// The nodes so far: their cells, the root first and the child nodes of each behind those of the node before, and for the
-/// first of them their list rows, their entries and what stands in their list rows.
+/// first of them their list rows, how many child nodes each has, their entries and what stands in their list rows.
 #[derive(Debug, Drop)]
 pub(crate) struct Nodes {
     pub cells: Vec<Cell>,
     pub places: Vec<NodePlace>,
+    pub under: Vec<u32>,
     pub spots: Vec<Spots>,
     pub lists: Vec<ListRow>,
 }
@@ -182,6 +183,7 @@ impl Nodes {
         Ok(Nodes {
             cells,
             places: Vec::new(alloc),
+            under: Vec::new(alloc),
             spots: Vec::new(alloc),
             lists: Vec::new(alloc),
         })
@@ -221,11 +223,13 @@ impl Nodes {
         } = parts;
         push_children(&mut spots, cell.level(), slot, node.children.as_slice())?;
         let count = fits(rows.len())?;
+        let below = fits(node.children.as_slice().len())?;
         self.places.push(NodePlace {
             cell,
             first: base,
             count,
         })?;
+        self.under.push(below)?;
         self.spots.push(Spots::from_vec(spots))?;
         self.lists.append(&mut rows)?;
         self.cells.extend_from_slice(node.children.as_slice())?;

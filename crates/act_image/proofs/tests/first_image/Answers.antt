@@ -16,6 +16,6 @@ returns c =
     let settings = c.args.state.now.settings in
     let new = after settings c.args.state.now.state c.args.next.now.entry in
     let few : c.in_ok-plan.plan.need ≤ 1000 = omega (arith, c.need-need.ensures, c.if-need-gt1000.false) in
+    let rows = c.as_slice.ensures.value ∙ c.in_ok-rows.ensures ∙ ap (from 2) c.need-need.ensures in
     first_stands settings c.in_ok-image.image c.in_ok-plan.plan c.bind.new.self c.args.state.now.state new c.as_slice.result.now c.in_ok-image.ensures c.requires.empty c.in_ok-plan.ensures.0
-    (λ plan fresh. c.bind.ensures.bound settings c.in_ok-image.image c.args.state.now.state new plan fresh) c.bind.ensures.rows
-    (c.as_slice.ensures.value ∙ c.in_ok-rows.ensures ∙ ap (from 2) c.need-need.ensures) few
+    c.bind.ensures.given (ap length rows ∙ length-from 2 c.in_ok-plan.plan.need) rows few

@@ -40,11 +40,12 @@ returns c =
     let is : get_or c.args.self.now.cells.items c.args.k root_cell ≡ c.index.result.now = sym (get_or_read c.args.self.now.cells.items c.args.k c.index.result.now c.requires.within c.index.ensures root_cell) in
     let leaves : c.as_slice.result.now ≡ node_leaves settings state cell = c.as_slice.ensures ∙ c.in_ok-node.ensures.leaves in
     let children : c.as_slice-2.result.now ≡ node_children settings state cell = c.as_slice-2.ensures ∙ c.in_ok-node.ensures.children in
-    let more : c.as_slice-3.result.now ≡ node_children settings state cell = c.as_slice-3.ensures ∙ c.in_ok-node.ensures.children in
+    let more : c.as_slice-4.result.now ≡ node_children settings state cell = c.as_slice-4.ensures ∙ c.in_ok-node.ensures.children in
     let lists : c.in_ok-parts.parts.rows.items ≡ put_lists state.zones no_fill [] (node_leaves settings state cell) = c.in_ok-parts.ensures.rows ∙ ap (put_lists state.zones no_fill []) leaves in
     let base : c.in_ok-base.base ≡ length c.args.self.now.lists.items = omega (arith, c.in_ok-base.ensures.is, c.len.ensures) in
     let slot : c.in_ok-slot.slot ≡ length c.args.self.now.cells.items = omega (arith, c.in_ok-slot.ensures.is, c.len-2.ensures) in
     let count : c.in_ok-count.count ≡ length (put_lists state.zones no_fill [] (node_leaves settings state cell)) = omega (arith, c.in_ok-count.ensures.is, c.len-3.ensures, ap length lists) in
+    let under : c.in_ok-below.below ≡ length (node_children settings state cell) = omega (arith, c.in_ok-below.ensures.is, ap length (c.as_slice-3.ensures ∙ c.in_ok-node.ensures.children)) in
     let own : c.in_ok-parts.parts.spots.items ≡ leaf_spots state.zones cell.level (length c.args.self.now.lists.items) no_fill (node_leaves settings state cell) =
     c.in_ok-parts.ensures.spots ∙ (λ i. leaf_spots state.zones (c.level.ensures.value i) (base i) no_fill (leaves i)) in
     let below : child_spots c.level-2.result c.in_ok-slot.slot c.as_slice-2.result.now ≡ child_spots cell.level (length c.args.self.now.cells.items) (node_children settings state cell) =
@@ -54,5 +55,6 @@ returns c =
     next_walk settings state c.args.k c.args.self.now _ c.requires.walk c.requires.within cell is
     (c.in_ok-extend_from_slice.ensures.items ∙ ap (λ v. c.args.self.now.cells.items ++ v) more)
     (c.in_ok-push.ensures.items ∙ (λ i. c.args.self.now.places.items ++ record { cell = cell; first = base i; count = count i } ∷ []))
-    (c.in_ok-push-2.ensures.items ∙ ap (λ v. c.args.self.now.spots.items ++ v ∷ []) spots)
+    (c.in_ok-push-2.ensures.items ∙ ap (λ v. c.args.self.now.under.items ++ v ∷ []) under)
+    (c.in_ok-push-3.ensures.items ∙ ap (λ v. c.args.self.now.spots.items ++ v ∷ []) spots)
     (c.in_ok-append.ensures.items ∙ ap (λ v. c.args.self.now.lists.items ++ v) lists)
