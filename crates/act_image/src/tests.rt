@@ -1,7 +1,7 @@
 //! Points of images that plans make, as act_probe finds them.
 
 ghost use Rattle.std.specs.Prelude.{◌≡◌, ◌<◌, ◌≤◌, ◌^◌, IfOk, length};
-ghost use Rattle.act_base.specs.Counting.{from, times};
+ghost use Rattle.act_base.specs.Counting.{from};
 ghost use Rattle.act_grid.specs.declared.Settings.{Settings as Limits};
 ghost use Rattle.act_super.specs.declared.entry.State.{State};
 ghost use Rattle.act_super.specs.States.{IsFor, after, nothing};
@@ -31,7 +31,7 @@ impl Words for Stored {
     fn word<L: Ledger>(&mut self, row: u32, place: u8, steps: &mut Steps<L>) -> u64 {
         steps.tick();
         let i = at(&self.plan, row);
-        if i < self.plan.need() {
+        if (i as usize) < self.plan.rows.len() {
             self.plan.word(i, place)
         } else {
             0
@@ -43,13 +43,12 @@ impl Words for Stored {
 fn at(plan: &Plan, row: u32) -> u32
     ensures { result ≡ row_at plan.now.rows row }
 {
-    let need = plan.need();
-    for i in 0..need {
-        if plan.row(i) == row {
-            return i;
+    for i in 0..plan.rows.len() {
+        if plan.rows[i] == row {
+            return i as u32;
         }
     }
-    need
+    plan.rows.len() as u32
 }
 
 /// The numbers from 2 on.
