@@ -17,15 +17,15 @@ use Rattle.act_image.specs.Plans.{nodes_from}
 use Rattle.act_image.proofs.FillFacts.{same_is}
 use Rattle.act_image.proofs.WalkFacts.{node_first}
 
-both : (a b : Bool) → (a && b) ≡ true → (a ≡ true) × (b ≡ true)
+pub both : (a b : Bool) → (a && b) ≡ true → (a ≡ true) × (b ≡ true)
 both true b h = (refl, h)
 both false b h = absurd (cc)
 
-either : (a b : Bool) → (a || b) ≡ true → (a ≡ true) ⊎ (b ≡ true)
+pub either : (a b : Bool) → (a || b) ≡ true → (a ≡ true) ⊎ (b ≡ true)
 either true b h = inl refl
 either false b h = inr h
 
-cells_are : (xs ys : List Address) → same_cells xs ys ≡ true → xs ≡ ys
+pub cells_are : (xs ys : List Address) → same_cells xs ys ≡ true → xs ≡ ys
 cells_are [] [] h = refl
 cells_are [] (d ∷ ys) h = absurd (cc)
 cells_are (c ∷ xs) [] h = absurd (cc)
@@ -36,14 +36,14 @@ hits_are true b h = sym h
 hits_are false true h = absurd (cc)
 hits_are false false h = refl
 
-keys_are : (a b : ℕ) → (a == b) ≡ true → a ≡ b
+pub keys_are : (a b : ℕ) → (a == b) ≡ true → a ≡ b
 keys_are a b h = by (eqb_tells a b)
   where
     by : ((eqb a b ≡ true) × (a ≡ b)) ⊎ ((eqb a b ≡ false) × (a ≢ b)) → a ≡ b
     by (inl same) = same.1
     by (inr other) = let no : false ≡ true = sym other.0 ∙ h in absurd (cc)
 
-refs_are : (xs ys : List ZoneRef) → same_refs xs ys ≡ true → xs ≡ ys
+pub refs_are : (xs ys : List ZoneRef) → same_refs xs ys ≡ true → xs ≡ ys
 refs_are [] [] h = refl
 refs_are [] (b ∷ ys) h = absurd (cc)
 refs_are (a ∷ xs) [] h = absurd (cc)
@@ -52,11 +52,11 @@ refs_are (a ∷ xs) (b ∷ ys) h =
     let u = both (a.key == b.key) (cond a.hit b.hit (not b.hit)) t.0 in
     λ i. record { key = keys_are a.key b.key u.0 i; hit = hits_are a.hit b.hit u.1 i } ∷ refs_are xs ys t.1 i
 
-each_of : {X : Type 0} (p : X → Bool) (P : X → Type 0) (xs : List X) → ((x : X) → p x ≡ true → P x) → list_all p xs ≡ true → Each P xs
+pub each_of : {X : Type 0} (p : X → Bool) (P : X → Type 0) (xs : List X) → ((x : X) → p x ≡ true → P x) → list_all p xs ≡ true → Each P xs
 each_of p P [] f h = tt
 each_of p P (x ∷ xs) f h = let t = both (p x) (list_all p xs) h in (f x t.0, each_of p P xs f t.1)
 
-not_is : (b : Bool) → not b ≡ true → b ≡ false
+pub not_is : (b : Bool) → not b ≡ true → b ≡ false
 not_is true h = absurd (cc)
 not_is false h = refl
 
