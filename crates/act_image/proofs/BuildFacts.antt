@@ -127,8 +127,8 @@ each_has [] = tt
 each_has (zone ∷ zones) = (has_self zones zone, Rattle.act_image.proofs.Leaves.each_mono (λ (other : Zone). has_key other.key zones ≡ true) (λ (other : Zone). has_key other.key (zone ∷ zones) ≡ true) zones (λ other h. has_more zones zone other.key h) (each_has zones))
 
 -- the references of a leaf, by where their chains begin
-pub refs_found : (zones : List Zone) (chains : Chains) (leaf : Address) → IsChains zones chains → found_refs chains.places.items (refs_of zones leaf) ≡ refs_on zones leaf
-refs_found zones chains leaf h = ap (λ v. found_refs v (refs_of zones leaf)) h.places ∙ among zones (each_has zones)
+pub refs_found : (zones : List Zone) (places : List ChainPlace) (leaf : Address) → places ≡ chains_from 0 zones → found_refs places (refs_of zones leaf) ≡ refs_on zones leaf
+refs_found zones places leaf h = ap (λ v. found_refs v (refs_of zones leaf)) h ∙ among zones (each_has zones)
   where
     among : (some : List Zone) → Each (λ (zone : Zone). has_key zone.key zones ≡ true) some → found_refs (chains_from 0 zones) (refs_of some leaf) ≡ slot_refs zones (refs_of some leaf)
     among [] h = refl

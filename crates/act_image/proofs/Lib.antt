@@ -16,6 +16,10 @@ pub mod SubSums
 pub mod WordFacts
 pub mod BuildFacts
 pub mod StepFacts
+pub mod OldFacts
+pub mod PathWalk
+pub mod PathTaken
+pub mod PathEnd
 pub mod AfterFacts
 pub mod ServedFacts
 pub mod FirstFacts

@@ -10,6 +10,7 @@ use Rattle.act_super.specs.declared.entry.State.{State}
 use Rattle.act_super.specs.Nodes.{IsNode, ground_of, node_children, node_leaves}
 use Rattle.act_probe.proofs.EntryFacts.{node_deep, root_node}
 use Rattle.act_image.specs.declared.walk.Nodes.{Nodes}
+use Rattle.act_image.specs.Paths.{IsQueue}
 use Rattle.act_image.specs.Plans.{IsLeafOf, IsWalk, lists_of, nodes_from, places_from, spots_from, spots_of, under_of}
 use Rattle.act_image.proofs.Leaves.{LeafIn, SplitIn, each_append, each_mono, leaves_are, node_reached, split_parted, splits_are}
 use Rattle.act_image.proofs.WalkFacts.{node_first, nodes_are_under, sum_flat}
@@ -51,7 +52,7 @@ module _ (settings : Settings) (state : State) where
   child_of_node c children k node is low = each_get (IsLeafOf c.level) children k root_cell (subst (Each (IsLeafOf c.level)) (sym is) (children_of_it c node)) low
 
   -- ---- one more node
-  places_push : (base : ℕ) (cells : List Address) (c : Address)
+  pub places_push : (base : ℕ) (cells : List Address) (c : Address)
       → places_from settings state base (cells ++ c ∷ []) ≡ places_from settings state base cells ++ record { cell = c; first = base + length (flat_map (lists_of settings state) cells); count = length (lists_of settings state c) } ∷ []
   places_push base [] c = let e : base ≡ base + 0 = omega arith in ap (λ n. record { cell = c; first = n; count = length (lists_of settings state c) } ∷ []) e
   places_push base (d ∷ cells) c =
@@ -75,25 +76,65 @@ module _ (settings : Settings) (state : State) where
       ap (λ v. spots_of settings state base slot d ∷ v) (spots_push (base + length (lists_of settings state d)) (slot + length (node_children settings state d)) cells c
       ∙ (λ i. spots_from settings state (base + length (lists_of settings state d)) (slot + length (node_children settings state d)) cells ++ spots_of settings state (e i) (f i) c ∷ []))
 
-  pub root_walk : (nodes : Nodes) → nodes.cells.items ≡ root_cell ∷ [] → nodes.places.items ≡ [] → nodes.under.items ≡ [] → nodes.spots.items ≡ [] → nodes.lists.items ≡ [] → IsWalk settings state 0 nodes
-  root_walk nodes cells places under spots lists = record {
+  -- ---- the queue
+  pub root_queue : (cells : List Address) → cells ≡ root_cell ∷ [] → IsQueue settings state 0 cells
+  root_queue cells is = record {
     within = omega arith;
     same = λ f. (
         let one = sum_by-cons (λ c. sum_by f (nodes_from settings state c)) root_cell [] in
         let all = ap (sum_by f) (nodes_are_under settings state) in
-        let here = ap (sum_by (λ c. sum_by f (nodes_from settings state c))) cells in
+        let here = ap (sum_by (λ c. sum_by f (nodes_from settings state c))) is in
         omega (arith, one, all, here));
-    are = subst (Each (IsNode settings state)) (sym cells) (root_node settings state, tt);
-    queue = cells;
-    places = places;
-    under = under;
-    spots = spots;
-    lists = lists;
+    are = subst (Each (IsNode settings state)) (sym is) (root_node settings state, tt);
+    queue = is;
   }
+
+  module _ (k : ℕ) (old new : List Address) (h : IsQueue settings state k old) (low : k < length old) (c : Address) (is : get_or old k root_cell ≡ c) where
+    pub node_next : IsNode settings state c
+    node_next = subst (IsNode settings state) is (each_get (IsNode settings state) old k root_cell h.are low)
+
+    pub taken_next : new ≡ old ++ node_children settings state c → take (k + 1) new ≡ take k old ++ c ∷ []
+    taken_next cells =
+        ap (take (k + 1)) cells ∙ take-append-le (k + 1) old (node_children settings state c) (omega (arith, low)) ∙ take_more old k root_cell low ∙ ap (λ v. take k old ++ v ∷ []) is
+
+    pub next_queue : new ≡ old ++ node_children settings state c → IsQueue settings state (k + 1) new
+    next_queue cells =
+        let children = node_children settings state c in
+        let taken = taken_next cells in
+        let left : drop (k + 1) new ≡ drop (k + 1) old ++ children = ap (drop (k + 1)) cells ∙ drop-append-le (k + 1) old children (omega (arith, low)) in
+        let before : drop k old ≡ c ∷ drop (k + 1) old = drop_more old k root_cell low ∙ ap (λ v. v ∷ drop (k + 1) old) is in
+        let node = node_next in
+        let first = node_first (ground_of settings state) state.zones c node.step (node_deep settings state c node) in
+        record {
+          within = omega (arith, ap length cells, length-append old children, low);
+          same = λ f. (
+              let sum_c : sum_by f (nodes_from settings state c) ≡ f c + sum_by f (flat_map (nodes_from settings state) children) = ap (sum_by f) first ∙ sum_by-cons f c (flat_map (nodes_from settings state) children) in
+              let below : sum_by f (flat_map (nodes_from settings state) children) ≡ sum_by (λ d. sum_by f (nodes_from settings state d)) children = sum_flat f (nodes_from settings state) children in
+              let a : sum_by f (take (k + 1) new) ≡ sum_by f (take k old) + sum_by f (c ∷ []) = ap (sum_by f) taken ∙ sum_by-append f (take k old) (c ∷ []) in
+              let one : sum_by f (c ∷ []) ≡ f c + sum_by f [] = sum_by-cons f c [] in
+              let b : sum_by (λ d. sum_by f (nodes_from settings state d)) (drop (k + 1) new) ≡ sum_by (λ d. sum_by f (nodes_from settings state d)) (drop (k + 1) old) + sum_by (λ d. sum_by f (nodes_from settings state d)) children =
+              ap (sum_by (λ d. sum_by f (nodes_from settings state d))) left ∙ sum_by-append (λ d. sum_by f (nodes_from settings state d)) (drop (k + 1) old) children in
+              let e : sum_by (λ d. sum_by f (nodes_from settings state d)) (drop k old) ≡ sum_by f (nodes_from settings state c) + sum_by (λ d. sum_by f (nodes_from settings state d)) (drop (k + 1) old) =
+              ap (sum_by (λ d. sum_by f (nodes_from settings state d))) before ∙ sum_by-cons (λ d. sum_by f (nodes_from settings state d)) c (drop (k + 1) old) in
+              omega (arith, sum_c, below, a, one, b, e, h.same f));
+          are = subst (Each (IsNode settings state)) (sym cells) (each_append (IsNode settings state) old children h.are (children_nodes c node));
+          queue = (
+              let more : flat_map (node_children settings state) (take (k + 1) new) ≡ flat_map (node_children settings state) (take k old) ++ children =
+              ap (flat_map (node_children settings state)) taken ∙ flat_map-append (node_children settings state) (take k old) (c ∷ []) ∙ ap (λ v. flat_map (node_children settings state) (take k old) ++ v) (append-nil children) in
+              cells ∙ ap (λ v. v ++ children) h.queue ∙ ap (λ v. root_cell ∷ v) (sym more));
+        }
+
+  queue_of : (k : ℕ) (nodes : Nodes) → IsWalk settings state k nodes → IsQueue settings state k nodes.cells.items
+  queue_of k nodes h = record { within = h.within; same = h.same; are = h.are; queue = h.queue }
+
+  pub root_walk : (nodes : Nodes) → nodes.cells.items ≡ root_cell ∷ [] → nodes.places.items ≡ [] → nodes.under.items ≡ [] → nodes.spots.items ≡ [] → nodes.lists.items ≡ [] → IsWalk settings state 0 nodes
+  root_walk nodes cells places under spots lists =
+      let q = root_queue nodes.cells.items cells in
+      record { within = q.within; same = q.same; are = q.are; queue = q.queue; places = places; under = under; spots = spots; lists = lists }
 
   module _ (k : ℕ) (old new : Nodes) (h : IsWalk settings state k old) (low : k < length old.cells.items) (c : Address) (is : get_or old.cells.items k root_cell ≡ c) where
     pub node_there : IsNode settings state c
-    node_there = subst (IsNode settings state) is (each_get (IsNode settings state) old.cells.items k root_cell h.are low)
+    node_there = node_next k old.cells.items new.cells.items (queue_of k old h) low c is
 
     abbrev done : List Address
     done = take k old.cells.items
@@ -104,33 +145,15 @@ module _ (settings : Settings) (state : State) where
         → new.spots.items ≡ old.spots.items ++ spots_of settings state (length old.lists.items) (length old.cells.items) c ∷ []
         → new.lists.items ≡ old.lists.items ++ lists_of settings state c → IsWalk settings state (k + 1) new
     next_walk cells places under spots lists =
-        let children = node_children settings state c in
-        let taken : take (k + 1) new.cells.items ≡ take k old.cells.items ++ c ∷ [] =
-        ap (take (k + 1)) cells ∙ take-append-le (k + 1) old.cells.items children (omega (arith, low)) ∙ take_more old.cells.items k root_cell low ∙ ap (λ v. take k old.cells.items ++ v ∷ []) is in
-        let left : drop (k + 1) new.cells.items ≡ drop (k + 1) old.cells.items ++ children = ap (drop (k + 1)) cells ∙ drop-append-le (k + 1) old.cells.items children (omega (arith, low)) in
-        let before : drop k old.cells.items ≡ c ∷ drop (k + 1) old.cells.items = drop_more old.cells.items k root_cell low ∙ ap (λ v. v ∷ drop (k + 1) old.cells.items) is in
-        let node = node_there in
-        let first = node_first (ground_of settings state) state.zones c node.step (node_deep settings state c node) in
+        let taken = taken_next k old.cells.items new.cells.items (queue_of k old h) low c is cells in
+        let q = next_queue k old.cells.items new.cells.items (queue_of k old h) low c is cells in
         let base : 0 + length (flat_map (lists_of settings state) done) ≡ length old.lists.items = omega (arith, ap length h.lists) in
         let slot : 1 + length (flat_map (node_children settings state) done) ≡ length old.cells.items = omega (arith, ap length h.queue) in
         record {
-          within = omega (arith, ap length cells, length-append old.cells.items children, low);
-          same = λ f. (
-              let sum_c : sum_by f (nodes_from settings state c) ≡ f c + sum_by f (flat_map (nodes_from settings state) children) = ap (sum_by f) first ∙ sum_by-cons f c (flat_map (nodes_from settings state) children) in
-              let below : sum_by f (flat_map (nodes_from settings state) children) ≡ sum_by (λ d. sum_by f (nodes_from settings state d)) children = sum_flat f (nodes_from settings state) children in
-              let a : sum_by f (take (k + 1) new.cells.items) ≡ sum_by f (take k old.cells.items) + sum_by f (c ∷ []) = ap (sum_by f) taken ∙ sum_by-append f (take k old.cells.items) (c ∷ []) in
-              let one : sum_by f (c ∷ []) ≡ f c + sum_by f [] = sum_by-cons f c [] in
-              let b : sum_by (λ d. sum_by f (nodes_from settings state d)) (drop (k + 1) new.cells.items)
-              ≡ sum_by (λ d. sum_by f (nodes_from settings state d)) (drop (k + 1) old.cells.items) + sum_by (λ d. sum_by f (nodes_from settings state d)) children =
-              ap (sum_by (λ d. sum_by f (nodes_from settings state d))) left ∙ sum_by-append (λ d. sum_by f (nodes_from settings state d)) (drop (k + 1) old.cells.items) children in
-              let e : sum_by (λ d. sum_by f (nodes_from settings state d)) (drop k old.cells.items) ≡ sum_by f (nodes_from settings state c) + sum_by (λ d. sum_by f (nodes_from settings state d)) (drop (k + 1) old.cells.items) =
-              ap (sum_by (λ d. sum_by f (nodes_from settings state d))) before ∙ sum_by-cons (λ d. sum_by f (nodes_from settings state d)) c (drop (k + 1) old.cells.items) in
-              omega (arith, sum_c, below, a, one, b, e, h.same f));
-          are = subst (Each (IsNode settings state)) (sym cells) (each_append (IsNode settings state) old.cells.items children h.are (children_nodes c node));
-          queue = (
-              let more : flat_map (node_children settings state) (take (k + 1) new.cells.items) ≡ flat_map (node_children settings state) done ++ children =
-              ap (flat_map (node_children settings state)) taken ∙ flat_map-append (node_children settings state) done (c ∷ []) ∙ ap (λ v. flat_map (node_children settings state) done ++ v) (append-nil children) in
-              cells ∙ ap (λ v. v ++ children) h.queue ∙ ap (λ v. root_cell ∷ v) (sym more));
+          within = q.within;
+          same = q.same;
+          are = q.are;
+          queue = q.queue;
           places = places ∙ ap (λ v. v ++ record { cell = c; first = length old.lists.items; count = length (lists_of settings state c) } ∷ []) h.places
               ∙ sym (ap (places_from settings state 0) taken ∙ places_push 0 done c ∙ ap (λ n. places_from settings state 0 done ++ record { cell = c; first = n; count = length (lists_of settings state c) } ∷ []) base);
           under = under ∙ ap (λ v. v ++ length (node_children settings state c) ∷ []) h.under

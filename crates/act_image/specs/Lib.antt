@@ -5,3 +5,4 @@ pub mod Pics
 pub mod Fresh
 pub mod Kept
 pub mod Made
+pub mod Paths

@@ -18,15 +18,19 @@
 
 mod after;
 mod chains;
+mod first;
 mod fits;
 mod image;
 mod lists;
 mod nodes;
+mod old;
+mod path;
 mod plan;
 mod slots;
 mod spots;
 #[cfg(test)]
 mod tests;
+mod turned;
 mod walk;
 
 pub use image::Image;

@@ -8,13 +8,15 @@ ghost use Rattle.act_super.specs.Nodes.{IsNode, node_children, node_leaves};
 ghost use Rattle.act_super.specs.Sizes.{refs_of};
 ghost use Rattle.act_super.specs.Stands.{entry_for};
 ghost use Rattle.act_super.specs.States.{IsFor, after, changed, has_key};
-ghost use Rattle.act_image.specs.Plans.{IsChains, IsLeafOf, IsWalk, IsWalked, child_spots, filled, found_refs, leaf_spots, lists_of, no_fill, put_list, put_lists, refs_on, slot_refs, spot_at, start_at};
+ghost use Rattle.act_image.specs.Plans.{IsChains, IsLeafOf, IsWalk, IsWalked, chains_from, child_spots, filled, found_refs, leaf_spots, lists_of, no_fill, put_list, put_lists, refs_on, slot_refs, spot_at, spots_of, start_at};
 
-use crate::chains::Chains;
+use crate::chains::{ChainPlace, Chains};
+use crate::first::first_of;
 use crate::fits::fits;
 use crate::lists::{Fill, ListRow, put_list};
 use crate::nodes::NodePlace;
 use crate::spots::{Spot, Spots};
+use act_cover::Cells;
 use act_entry::{Entry, Ref};
 use act_grid::{Cell, NoMemory};
 use act_super::{Next, Super, ZoneRef};
@@ -31,7 +33,15 @@ pub(crate) struct Nodes {
     pub lists: Vec<ListRow>,
 }
 
-/// What stands in one node, and in its list rows.
+/// What stands in one node and in its list rows, and the cells of its child nodes.
+#[derive(Debug, Drop)]
+pub(crate) struct NodeMade {
+    pub spots: Spots,
+    pub rows: Vec<ListRow>,
+    pub children: Cells,
+}
+
+// What the leaves put into their node, and into its list rows.
 #[derive(Debug, Drop)]
 struct NodeParts {
     spots: Vec<Spot>,
@@ -39,13 +49,13 @@ struct NodeParts {
 }
 
 // The references by where the chains of their zones begin.
-fn slots(alloc: Global, chains: &Chains, refs: &[ZoneRef]) -> Result<Vec<Ref>, AllocError>
-    ensures { IfOk result (λ slots. slots.items ≡ found_refs chains.now.places.items refs.now) }
+fn slots(alloc: Global, places: &[ChainPlace], refs: &[ZoneRef]) -> Result<Vec<Ref>, AllocError>
+    ensures { IfOk result (λ slots. slots.items ≡ found_refs places.now refs.now) }
 {
     let mut slots = Vec::with_capacity(alloc, refs.len())?;
     for r in refs {
         slots.push(Ref {
-            row: chains.first(r.key),
+            row: first_of(places, r.key),
             hit: r.hit,
         })?;
     }
@@ -69,7 +79,7 @@ fn leaf_part(
     alloc: Global,
     state: &Super,
     next: &Next,
-    chains: &Chains,
+    places: &[ChainPlace],
     level: u32,
     base: u32,
     leaf: Cell,
@@ -77,14 +87,14 @@ fn leaf_part(
     rows: &mut Vec<ListRow>,
 ) -> Result<Spot, NoMemory>
     requires prepared { IsFor state.now.settings state.now.state next.now }
-    requires chains { IsChains (changed state.now.state.zones next.now.entry) chains.now }
+    requires places { places.now ≡ chains_from 0 (changed state.now.state.zones next.now.entry) }
     requires leaf { IsLeafOf level leaf }
     ensures spot { let zones = changed state.now.state.zones next.now.entry in let start = start_at fill.old (length (refs_of zones leaf)) in IfOk result (λ spot. spot ≡ spot_at level leaf (entry_for (refs_on zones leaf) (base + start.row) start.place)) }
     ensures fill { let zones = changed state.now.state.zones next.now.entry in IfOk result (λ spot. fill.new ≡ filled fill.old (length (refs_of zones leaf))) }
     ensures rows { let zones = changed state.now.state.zones next.now.entry in IfOk result (λ spot. rows.new.items ≡ put_list fill.old (length (refs_of zones leaf)) rows.old.items (refs_on zones leaf)) }
 {
     let refs = next.refs(alloc, state, leaf)?;
-    let refs = slots(alloc, chains, refs.as_slice())?;
+    let refs = slots(alloc, places, refs.as_slice())?;
     let count = fits(refs.len())?;
     let start = fill.start(count);
     let row = fits(base as usize + start.row as usize)?;
@@ -103,13 +113,13 @@ fn leaf_parts(
     alloc: Global,
     state: &Super,
     next: &Next,
-    chains: &Chains,
+    places: &[ChainPlace],
     level: u32,
     base: u32,
     leaves: &[Cell],
 ) -> Result<NodeParts, NoMemory>
     requires prepared { IsFor state.now.settings state.now.state next.now }
-    requires chains { IsChains (changed state.now.state.zones next.now.entry) chains.now }
+    requires places { places.now ≡ chains_from 0 (changed state.now.state.zones next.now.entry) }
     requires leaves { (k : ℕ) → k < length leaves.now → IsLeafOf level (slice_index_or leaves.now k root_cell) }
     ensures spots { IfOk result (λ parts. parts.spots.items ≡ leaf_spots (changed state.now.state.zones next.now.entry) level base no_fill leaves.now) }
     ensures rows { IfOk result (λ parts. parts.rows.items ≡ put_lists (changed state.now.state.zones next.now.entry) no_fill [] leaves.now) }
@@ -119,7 +129,7 @@ fn leaf_parts(
     let mut fill = Fill::empty();
     for i in 0..leaves.len() {
         let spot = leaf_part(
-            alloc, state, next, chains, level, base, leaves[i], &mut fill, &mut rows,
+            alloc, state, next, places, level, base, leaves[i], &mut fill, &mut rows,
         )?;
         spots.push(spot)?;
     }
@@ -146,6 +156,44 @@ fn push_children(
         })?;
     }
     Ok(())
+}
+
+/// What stands in a node of the state after the change and in its list rows, which begin at one, and the cells of its child
+/// nodes, which begin at another. It asks once for the node, and once for each leaf.
+pub(crate) fn node_made(
+    alloc: Global,
+    state: &Super,
+    next: &Next,
+    places: &[ChainPlace],
+    cell: Cell,
+    base: u32,
+    slot: u32,
+) -> Result<NodeMade, NoMemory>
+    requires prepared { IsFor state.now.settings state.now.state next.now }
+    requires places { places.now ≡ chains_from 0 (changed state.now.state.zones next.now.entry) }
+    requires node { IsNode state.now.settings (after state.now.settings state.now.state next.now.entry) cell }
+    ensures spots { IfOk result (λ made. made.spots ≡ spots_of state.now.settings (after state.now.settings state.now.state next.now.entry) base slot cell) }
+    ensures rows { IfOk result (λ made. made.rows.items ≡ lists_of state.now.settings (after state.now.settings state.now.state next.now.entry) cell) }
+    ensures children { IfOk result (λ made. made.children ≡ node_children state.now.settings (after state.now.settings state.now.state next.now.entry) cell) }
+{
+    let node = next.node(alloc, state, cell)?;
+    let level = cell.level();
+    let parts = leaf_parts(
+        alloc,
+        state,
+        next,
+        places,
+        level,
+        base,
+        node.leaves.as_slice(),
+    )?;
+    let NodeParts { mut spots, rows } = parts;
+    push_children(&mut spots, level, slot, node.children.as_slice())?;
+    Ok(NodeMade {
+        spots: Spots::from_vec(spots),
+        rows,
+        children: node.children,
+    })
 }
 
 impl Nodes {
@@ -207,32 +255,31 @@ impl Nodes {
         let cell = self.cells[k as usize];
         let base = fits(self.lists.len())?;
         let slot = fits(self.cells.len())?;
-        let node = next.node(alloc, state, cell)?;
-        let parts = leaf_parts(
+        let made = node_made(
             alloc,
             state,
             next,
-            chains,
-            cell.level(),
+            chains.places.as_slice(),
+            cell,
             base,
-            node.leaves.as_slice(),
+            slot,
         )?;
-        let NodeParts {
-            mut spots,
+        let NodeMade {
+            spots,
             mut rows,
-        } = parts;
-        push_children(&mut spots, cell.level(), slot, node.children.as_slice())?;
+            children,
+        } = made;
         let count = fits(rows.len())?;
-        let below = fits(node.children.as_slice().len())?;
+        let below = fits(children.as_slice().len())?;
         self.places.push(NodePlace {
             cell,
             first: base,
             count,
         })?;
         self.under.push(below)?;
-        self.spots.push(Spots::from_vec(spots))?;
+        self.spots.push(spots)?;
         self.lists.append(&mut rows)?;
-        self.cells.extend_from_slice(node.children.as_slice())?;
+        self.cells.extend_from_slice(children.as_slice())?;
         Ok(())
     }
 }
