@@ -236,16 +236,14 @@ module _ (settings : Settings) (p : Pic) (q : Planned) (state : State) (cells : 
 
     chain_row_word : (k place : ℕ) → k < length q.chain_rows → place < 256
         → x.word (get_or q.all (length q.spots + length q.lists + k) 0) place
-        ≡ chain_word numbers (get_or q.chains (get_or q.chain_rows k no_row).chain no_chain) (get_or q.bodies (get_or q.chain_rows k no_row).chain []) (get_or q.chain_rows k no_row).row place
+        ≡ chain_word numbers (get_or q.chains (get_or q.chain_rows k no_row).chain no_chain) (get_or q.bodies (get_or q.chain_rows k no_row).body []) (get_or q.chain_rows k no_row).row place
     unfolding planned_word word_of
     chain_row_word k place h small =
         let e : length q.spots + length q.lists + k - length q.spots - length q.lists ≡ k = omega arith in
-        let none : (get_or q.chain_rows k no_row).chain - 0 ≡ (get_or q.chain_rows k no_row).chain = omega arith in
         fresh_words (length q.spots + length q.lists + k) place (omega (arith, h, need)) small
         ∙ cond_false _ _ _ (ge_is (length q.spots + length q.lists + k) (length q.spots) (omega arith))
         ∙ cond_false _ _ _ (ge_is (length q.spots + length q.lists + k) (length q.spots + length q.lists) (omega arith))
-        ∙ (λ t. chain_word (numbers_are t) (get_or q.chains (get_or q.chain_rows (e t) no_row).chain no_chain) (get_or q.bodies ((get_or q.chain_rows (e t) no_row).chain - w.first_body t) []) (get_or q.chain_rows (e t) no_row).row place)
-        ∙ ap (λ m. chain_word numbers (get_or q.chains (get_or q.chain_rows k no_row).chain no_chain) (get_or q.bodies m []) (get_or q.chain_rows k no_row).row place) none
+        ∙ (λ t. chain_word (numbers_are t) (get_or q.chains (get_or q.chain_rows (e t) no_row).chain no_chain) (get_or q.bodies (get_or q.chain_rows (e t) no_row).body []) (get_or q.chain_rows (e t) no_row).row place)
 
   -- ---- the lists of a node
   row_ends : (c : Address) (i place : ℕ) → IsNode settings state c → i < length (lists_of settings state c) → IsRest settings state c i place → length (get_or (lists_of settings state c) i []) ≤ place
@@ -504,7 +502,7 @@ module _ (settings : Settings) (p : Pic) (q : Planned) (state : State) (cells : 
           → x.word (get_or (layout.chain zone.key) i 0) place
           ≡ chain_word numbers (record { key = zone.key; first = chain_first state.zones zone.key; count = chain_rows zone.shape }) (body_of zone.shape) i place
       row_word i place h small =
-          let r : get_or q.chain_rows (chain_first state.zones zone.key + i) no_row ≡ record { chain = 0 + c.at.index; row = i } = ap (λ v. get_or v (chain_first state.zones zone.key + i) no_row) w.chain_rows ∙ c.at.rows i h in
+          let r : get_or q.chain_rows (chain_first state.zones zone.key + i) no_row ≡ record { chain = 0 + c.at.index; body = 0 + c.at.index; row = i } = ap (λ v. get_or v (chain_first state.zones zone.key + i) no_row) w.chain_rows ∙ c.at.rows i h in
           let index : 0 + c.at.index ≡ c.at.index = omega arith in
           let zero_first : 0 + chain_first state.zones zone.key ≡ chain_first state.zones zone.key = omega arith in
           let place_is : get_or q.chains (0 + c.at.index) no_chain ≡ record { key = zone.key; first = chain_first state.zones zone.key; count = chain_rows zone.shape } =
@@ -512,7 +510,7 @@ module _ (settings : Settings) (p : Pic) (q : Planned) (state : State) (cells : 
           let body_is : get_or q.bodies (0 + c.at.index) [] ≡ body_of zone.shape = ap (λ k. get_or q.bodies k []) index ∙ ap (λ v. get_or v c.at.index []) w.bodies ∙ c.at.body in
           ap (λ k. x.word k place) (chain_get i h)
           ∙ chain_row_word x fresh_words (chain_first state.zones zone.key + i) place (omega (arith, c.at.within, h, many_chain_rows)) small
-          ∙ ap (λ (v : Rattle.act_image.specs.declared.chains.ChainRow.ChainRow). chain_word numbers (get_or q.chains v.chain no_chain) (get_or q.bodies v.chain []) v.row place) r
+          ∙ ap (λ (v : Rattle.act_image.specs.declared.chains.ChainRow.ChainRow). chain_word numbers (get_or q.chains v.chain no_chain) (get_or q.bodies v.body []) v.row place) r
           ∙ (λ t. chain_word numbers (place_is t) (body_is t) i place)
 
       -- the number of the next row
@@ -680,7 +678,6 @@ module _ (settings : Settings) (p : Pic) (q : Planned) (state new : State) (plan
     spots = plan.whole.spots;
     lists = plan.whole.lists;
     chains = plan.whole.chains;
-    first_body = plan.whole.first_body;
     bodies = plan.whole.bodies;
     chain_rows = plan.whole.chain_rows;
   }

@@ -29,16 +29,16 @@ first_is first (zone ∷ zones) key h = by (zone.key == key) h (λ more. first_i
     by true h more = omega arith
     by false h more = more h ∙ omega arith
 
-pub rows_push : (chain row n : ℕ) → rows_from chain row n ++ record { chain = chain; row = row + n } ∷ [] ≡ rows_from chain row (n + 1)
-rows_push chain row zero = let e : row + 0 ≡ row = omega arith in ap (λ m. record { chain = chain; row = m } ∷ []) e
+pub rows_push : (chain row n : ℕ) → rows_from chain row n ++ record { chain = chain; body = chain; row = row + n } ∷ [] ≡ rows_from chain row (n + 1)
+rows_push chain row zero = let e : row + 0 ≡ row = omega arith in ap (λ m. record { chain = chain; body = chain; row = m } ∷ []) e
 rows_push chain row (suc n) =
     let e : row + suc n ≡ row + 1 + n = omega arith in
     let f : suc n + 1 ≡ suc (n + 1) = omega arith in
-    ap (λ m. record { chain = chain; row = row } ∷ (rows_from chain (row + 1) n ++ record { chain = chain; row = m } ∷ [])) e
-    ∙ ap (λ v. record { chain = chain; row = row } ∷ v) (rows_push chain (row + 1) n) ∙ ap (rows_from chain row) (sym f)
+    ap (λ m. record { chain = chain; body = chain; row = row } ∷ (rows_from chain (row + 1) n ++ record { chain = chain; body = chain; row = m } ∷ [])) e
+    ∙ ap (λ v. record { chain = chain; body = chain; row = row } ∷ v) (rows_push chain (row + 1) n) ∙ ap (rows_from chain row) (sym f)
 
 -- ---- one more zone
-chains_push : (first : ℕ) (zones : List Zone) (zone : Zone)
+pub chains_push : (first : ℕ) (zones : List Zone) (zone : Zone)
     → chains_from first (zones ++ zone ∷ []) ≡ chains_from first zones ++ record { key = zone.key; first = first + length (chain_rows_from 0 zones); count = chain_rows zone.shape } ∷ []
 chains_push first [] zone = let e : first ≡ first + 0 = omega arith in ap (λ m. record { key = zone.key; first = m; count = chain_rows zone.shape } ∷ []) e
 chains_push first (other ∷ zones) zone =
@@ -58,11 +58,11 @@ chains_push first (other ∷ zones) zone =
           same_length (a + 1) (b + 1) zones,
         )
 
-chains_length : (first : ℕ) (zones : List Zone) → length (chains_from first zones) ≡ length zones
+pub chains_length : (first : ℕ) (zones : List Zone) → length (chains_from first zones) ≡ length zones
 chains_length first [] = refl
 chains_length first (zone ∷ zones) = ap suc (chains_length (first + chain_rows zone.shape) zones)
 
-chain_rows_push : (chain : ℕ) (zones : List Zone) (zone : Zone) → chain_rows_from chain (zones ++ zone ∷ []) ≡ chain_rows_from chain zones ++ rows_from (chain + length zones) 0 (chain_rows zone.shape)
+pub chain_rows_push : (chain : ℕ) (zones : List Zone) (zone : Zone) → chain_rows_from chain (zones ++ zone ∷ []) ≡ chain_rows_from chain zones ++ rows_from (chain + length zones) 0 (chain_rows zone.shape)
 chain_rows_push chain [] zone = let e : chain ≡ chain + 0 = omega arith in append-nil (rows_from chain 0 (chain_rows zone.shape)) ∙ ap (λ m. rows_from m 0 (chain_rows zone.shape)) e
 chain_rows_push chain (other ∷ zones) zone =
     let e : chain + 1 + length zones ≡ chain + suc (length zones) = omega arith in
@@ -143,8 +143,8 @@ refs_found zones places leaf h = ap (λ v. found_refs v (refs_of zones leaf)) h 
 pub first_none : (places : List ChainPlace) (i key : ℕ) → length places ≤ i → place_first places key ≡ place_first (drop i places) key → 0 ≡ place_first places key
 first_none places i key high h = sym (h ∙ ap (λ v. place_first v key) (drop_all i places high))
 
-pub rows_step : (before now after : List ChainRow) (chain row : ℕ) → now ≡ before ++ rows_from chain 0 row → after ≡ now ++ record { chain = chain; row = row } ∷ [] → after ≡ before ++ rows_from chain 0 (row + 1)
+pub rows_step : (before now after : List ChainRow) (chain row : ℕ) → now ≡ before ++ rows_from chain 0 row → after ≡ now ++ record { chain = chain; body = chain; row = row } ∷ [] → after ≡ before ++ rows_from chain 0 (row + 1)
 rows_step before now after chain row h e =
     let none : row ≡ 0 + row = omega arith in
-    e ∙ ap (λ v. v ++ record { chain = chain; row = row } ∷ []) h ∙ append_assoc before (rows_from chain 0 row) (record { chain = chain; row = row } ∷ [])
-    ∙ ap (λ m. before ++ (rows_from chain 0 row ++ record { chain = chain; row = m } ∷ [])) none ∙ ap (λ v. before ++ v) (rows_push chain 0 row)
+    e ∙ ap (λ v. v ++ record { chain = chain; body = chain; row = row } ∷ []) h ∙ append_assoc before (rows_from chain 0 row) (record { chain = chain; body = chain; row = row } ∷ [])
+    ∙ ap (λ m. before ++ (rows_from chain 0 row ++ record { chain = chain; body = chain; row = m } ∷ [])) none ∙ ap (λ v. before ++ v) (rows_push chain 0 row)

@@ -145,7 +145,6 @@ module _ (settings : Settings) (p : Pic) (q : Planned) (old new : State) (e : En
     spots = w.spots;
     lists = w.lists;
     chains = w.chains;
-    first_body = w.first_body;
     bodies = w.bodies;
     chain_rows = w.chain_rows;
   }

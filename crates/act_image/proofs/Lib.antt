@@ -13,6 +13,7 @@ pub mod SameWords
 pub mod KeepFacts
 pub mod PathFacts
 pub mod SubSums
+pub mod ChainFacts
 pub mod WordFacts
 pub mod BuildFacts
 pub mod StepFacts

@@ -213,10 +213,10 @@ pub rows_length : (chain row n : ℕ) → length (rows_from chain row n) ≡ n
 rows_length chain row zero = refl
 rows_length chain row (suc n) = ap suc (rows_length chain (row + 1) n)
 
-rows_at : (chain row n i : ℕ) → i < n → get_or (rows_from chain row n) i no_row ≡ record { chain = chain; row = row + i }
+rows_at : (chain row n i : ℕ) → i < n → get_or (rows_from chain row n) i no_row ≡ record { chain = chain; body = chain; row = row + i }
 rows_at chain row zero i h = absurd (omega (arith, h))
-rows_at chain row (suc n) zero h = let e : row ≡ row + 0 = omega arith in ap (λ m. record { chain = chain; row = m }) e
-rows_at chain row (suc n) (suc i) h = let e : row + 1 + i ≡ row + suc i = omega arith in rows_at chain (row + 1) n i (omega (arith, h)) ∙ ap (λ m. record { chain = chain; row = m }) e
+rows_at chain row (suc n) zero h = let e : row ≡ row + 0 = omega arith in ap (λ m. record { chain = chain; body = chain; row = m }) e
+rows_at chain row (suc n) (suc i) h = let e : row + 1 + i ≡ row + suc i = omega arith in rows_at chain (row + 1) n i (omega (arith, h)) ∙ ap (λ m. record { chain = chain; body = chain; row = m }) e
 
 -- the chain of a zone among those of all zones
 pub record ChainAt (first chain : ℕ) (zones : List Zone) (zone : Zone) : Type 0 where
@@ -224,7 +224,7 @@ pub record ChainAt (first chain : ℕ) (zones : List Zone) (zone : Zone) : Type 
   pub looked_up : chain_of (chains_from first zones) zone.key ≡ record { key = zone.key; first = first + chain_first zones zone.key; count = chain_rows zone.shape }
   pub place : get_or (chains_from first zones) index no_chain ≡ record { key = zone.key; first = first + chain_first zones zone.key; count = chain_rows zone.shape }
   pub body : get_or (bodies_of zones) index [] ≡ body_of zone.shape
-  pub rows : (i : ℕ) → i < chain_rows zone.shape → get_or (chain_rows_from chain zones) (chain_first zones zone.key + i) no_row ≡ record { chain = chain + index; row = i }
+  pub rows : (i : ℕ) → i < chain_rows zone.shape → get_or (chain_rows_from chain zones) (chain_first zones zone.key + i) no_row ≡ record { chain = chain + index; body = chain + index; row = i }
   pub within : chain_first zones zone.key + chain_rows zone.shape ≤ length (chain_rows_from chain zones)
 
 pub chains_at : (first chain : ℕ) (zones : List Zone) → OwnKeys zones → Each (ChainAt first chain zones) zones
@@ -256,7 +256,7 @@ chains_at first chain (zone ∷ zones) own = (here, there zones own.0 (chains_at
           let r : 0 + i ≡ i = omega arith in
           ap (λ k. get_or (chain_rows_from chain (zone ∷ zones)) k no_row) at
           ∙ get_or_append_left (rows_from chain 0 (chain_rows zone.shape)) (chain_rows_from (chain + 1) zones) no_row i (omega (arith, n, low))
-          ∙ rows_at chain 0 (chain_rows zone.shape) i low ∙ (λ t. record { chain = c t; row = r t }));
+          ∙ rows_at chain 0 (chain_rows zone.shape) i low ∙ (λ t. record { chain = c t; body = c t; row = r t }));
       within = omega (arith, zero_first, long);
     }
 
@@ -278,7 +278,7 @@ chains_at first chain (zone ∷ zones) own = (here, there zones own.0 (chains_at
               let c : chain + 1 + at.index ≡ chain + suc at.index = omega arith in
               ap (λ k. get_or (chain_rows_from chain (zone ∷ zones)) k no_row) k
               ∙ get_or-append-add (rows_from chain 0 (chain_rows zone.shape)) (chain_rows_from (chain + 1) zones) (chain_first zones other.key + i) no_row
-              ∙ at.rows i low ∙ ap (λ m. record { chain = m; row = i }) c);
+              ∙ at.rows i low ∙ ap (λ m. record { chain = m; body = m; row = i }) c);
           within = omega (arith, further, long, at.within);
         }
 

@@ -34,7 +34,6 @@ module _ (settings : Settings) (p : Pic) (x : Sight) (state : State) (shown : Sh
     spots = spots_from settings state 0 1 shown.cells;
     lists = flat_map (lists_of settings state) shown.cells;
     chains = p.chains;
-    first_body = 0;
     bodies = bodies_of state.zones;
     chain_rows = chain_rows_from 0 state.zones;
     slots = [];
@@ -54,7 +53,6 @@ module _ (settings : Settings) (p : Pic) (x : Sight) (state : State) (shown : Sh
     spots = refl;
     lists = refl;
     chains = shown.copy.chains;
-    first_body = refl;
     bodies = refl;
     chain_rows = refl;
   }

@@ -78,8 +78,8 @@ module _ (settings : Settings) (state : State) (served : IsServed settings state
 
 -- what was walked, and the chains, make a plan of all rows
 pub walked_whole : (settings : Settings) (state : State) (nodes : Nodes) (chains : Chains) (q : Planned) → IsWalked settings state nodes → IsChains state.zones chains → q.nodes ≡ nodes.places.items → q.under ≡ nodes.under.items → q.list_rows ≡ length nodes.lists.items → q.spots ≡ nodes.spots.items
-    → q.lists ≡ nodes.lists.items → q.chains ≡ chains.places.items → q.first_body ≡ 0 → q.bodies ≡ chains.bodies.items → q.chain_rows ≡ chains.rows.items → IsWhole settings q state nodes.cells.items
-walked_whole settings state nodes chains q w c a u n b d e first f g =
+    → q.lists ≡ nodes.lists.items → q.chains ≡ chains.places.items → q.bodies ≡ chains.bodies.items → q.chain_rows ≡ chains.rows.items → IsWhole settings q state nodes.cells.items
+walked_whole settings state nodes chains q w c a u n b d e f g =
     let cells = nodes.cells.items in
     let all : take (length cells) cells ≡ cells = take_all (length cells) cells (omega arith) in
     let none : drop (length cells) cells ≡ [] = drop_all (length cells) cells (omega arith) in
@@ -96,7 +96,6 @@ walked_whole settings state nodes chains q w c a u n b d e first f g =
       spots = b ∙ w.spots ∙ ap (spots_from settings state 0 1) all;
       lists = d ∙ w.lists ∙ ap (flat_map (lists_of settings state)) all;
       chains = e ∙ c.places;
-      first_body = first;
       bodies = f ∙ c.bodies;
       chain_rows = g ∙ c.rows;
     }

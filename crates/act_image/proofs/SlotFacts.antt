@@ -5,6 +5,7 @@ use Rattle.act_base.specs.Counting.{times}
 use Rattle.act_base.proofs.Times.{times_here}
 use Rattle.act_image.specs.declared.slots.Slot.{Slot}
 use Rattle.act_image.specs.declared.slots.Slot.TheVariants as slot
+use Rattle.act_image.specs.Kept.{new_slots}
 use Rattle.act_image.specs.Slots.{kept_of, new_places, with_rows}
 
 pub rows_length : (slots : List Slot) (rows : List ℕ) → length (with_rows slots rows) ≡ length slots
@@ -142,3 +143,11 @@ get_new (suc n) (suc k) = get_new n k
 pub new_all : (n : ℕ) → replicate n slot.New ≡ all_new n
 new_all zero = refl
 new_all (suc n) = ap (λ v. slot.New ∷ v) (new_all n)
+
+-- ---- new rows put one behind the other
+new_more : (n : ℕ) → new_slots n ++ slot.New ∷ [] ≡ new_slots (n + 1)
+new_more zero = refl
+new_more (suc n) = let next : suc n + 1 ≡ suc (n + 1) = omega arith in ap (λ v. slot.New ∷ v) (new_more n) ∙ ap new_slots (sym next)
+
+pub new_step : (before now after : List Slot) (n : ℕ) → now ≡ before ++ new_slots n → after ≡ now ++ slot.New ∷ [] → after ≡ before ++ new_slots (n + 1)
+new_step before now after n h e = e ∙ ap (λ v. v ++ slot.New ∷ []) h ∙ append_assoc before (new_slots n) (slot.New ∷ []) ∙ ap (λ v. before ++ v) (new_more n)

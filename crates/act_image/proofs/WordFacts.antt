@@ -32,12 +32,12 @@ module _ (q : Planned) (i place a b : ℕ) (nodes : a ≡ length q.spots) (lists
 
   pub word_chain : a + b ≤ i
       → planned_word q i place
-      ≡ chain_word (numbers_of q) (get_or q.chains (get_or q.chain_rows (i - a - b) no_row).chain no_chain) (get_or q.bodies ((get_or q.chain_rows (i - a - b) no_row).chain - q.first_body) [])
+      ≡ chain_word (numbers_of q) (get_or q.chains (get_or q.chain_rows (i - a - b) no_row).chain no_chain) (get_or q.bodies (get_or q.chain_rows (i - a - b) no_row).body [])
       (get_or q.chain_rows (i - a - b) no_row).row place
   unfolding planned_word word_of
   word_chain high =
       let e : i - length q.spots - length q.lists ≡ i - a - b = omega (arith, nodes, lists) in
       cond_false _ _ _ (ge_is i (length q.spots) (omega (arith, nodes, high)))
       ∙ cond_false _ _ _ (ge_is i (length q.spots + length q.lists) (omega (arith, nodes, lists, high)))
-      ∙ ap (λ m. chain_word (numbers_of q) (get_or q.chains (get_or q.chain_rows m no_row).chain no_chain) (get_or q.bodies ((get_or q.chain_rows m no_row).chain - q.first_body) [])
+      ∙ ap (λ m. chain_word (numbers_of q) (get_or q.chains (get_or q.chain_rows m no_row).chain no_chain) (get_or q.bodies (get_or q.chain_rows m no_row).body [])
       (get_or q.chain_rows m no_row).row place) e

@@ -6,9 +6,8 @@ use Rattle.act_image.specs.declared.walk.Nodes.{Nodes}
 use Rattle.act_image.specs.Slots.{new_places}
 use Rattle.act_image.specs.Pics.{Planned}
 
--- the plan has these nodes and chains and so many list rows, the bodies of the chains from one on, and rows that stay or come
--- as the slots say
-pub record IsMade (walked : Nodes) (many : ℕ) (own : Chains) (from : ℕ) (kinds : List Slot) (left : List ℕ) (plan : Planned) : Type 0 where
+-- the plan has these nodes and chains and so many list rows, and its rows stay or come as the slots say
+pub record IsMade (walked : Nodes) (many : ℕ) (own : Chains) (kinds : List Slot) (left : List ℕ) (plan : Planned) : Type 0 where
   pub need : plan.need ≡ length (new_places 0 kinds)
   pub nodes : plan.nodes ≡ walked.places.items
   pub under : plan.under ≡ walked.under.items
@@ -16,7 +15,6 @@ pub record IsMade (walked : Nodes) (many : ℕ) (own : Chains) (from : ℕ) (kin
   pub spots : plan.spots ≡ walked.spots.items
   pub lists : plan.lists ≡ walked.lists.items
   pub chains : plan.chains ≡ own.places.items
-  pub first_body : plan.first_body ≡ from
   pub bodies : plan.bodies ≡ own.bodies.items
   pub chain_rows : plan.chain_rows ≡ own.rows.items
   pub slots : plan.slots ≡ kinds

@@ -45,7 +45,6 @@ pub record Planned : Type 0 where
   pub spots : List (List Spot)
   pub lists : List (List ListWord)
   pub chains : List ChainPlace
-  pub first_body : ℕ
   pub bodies : List (List ℕ)
   pub chain_rows : List ChainRow
   pub slots : List Slot
@@ -103,7 +102,7 @@ numbers_of p = record { nodes = length p.nodes; lists = p.list_rows; rows = p.al
 
 -- the word of the i-th row that the plan holds at a place
 unfoldable pub planned_word : Planned → ℕ → ℕ → ℕ
-planned_word p i place = word_of (numbers_of p) p.spots p.lists p.chains p.first_body p.bodies p.chain_rows i place
+planned_word p i place = word_of (numbers_of p) p.spots p.lists p.chains p.bodies p.chain_rows i place
 
 -- the plan with these new rows
 abbrev pub with_numbers : Planned → List ℕ → Planned
@@ -178,7 +177,6 @@ pub record IsWhole (settings : Settings) (plan : Planned) (state : State) (cells
   pub spots : plan.spots ≡ spots_from settings state 0 1 cells
   pub lists : plan.lists ≡ flat_map (lists_of settings state) cells
   pub chains : plan.chains ≡ chains_from 0 state.zones
-  pub first_body : plan.first_body ≡ 0
   pub bodies : plan.bodies ≡ bodies_of state.zones
   pub chain_rows : plan.chain_rows ≡ chain_rows_from 0 state.zones
 

@@ -43,7 +43,7 @@ bodies_of zones = map (λ (zone : Zone). body_of zone.shape) zones
 -- the rows of a chain from one on
 abbrev pub rows_from : ℕ → ℕ → ℕ → List ChainRow
 rows_from chain row zero = []
-rows_from chain row (suc n) = record { chain = chain; row = row } ∷ rows_from chain (row + 1) n
+rows_from chain row (suc n) = record { chain = chain; body = chain; row = row } ∷ rows_from chain (row + 1) n
 
 abbrev pub chain_rows_from : ℕ → List Zone → List ChainRow
 chain_rows_from chain [] = []

@@ -60,7 +60,7 @@ abbrev pub no_chain : ChainPlace
 no_chain = record { key = 0; first = 0; count = 0 }
 
 abbrev pub no_row : ChainRow
-no_row = record { chain = 0; row = 0 }
+no_row = record { chain = 0; body = 0; row = 0 }
 
 -- the first word of a row of a chain: the number of the next row, and in the first row the key
 abbrev pub chain_head : Numbers → ChainPlace → ℕ → ℕ
@@ -72,13 +72,12 @@ abbrev pub chain_word : Numbers → ChainPlace → List ℕ → ℕ → ℕ → 
 chain_word n chain body row zero = chain_head n chain row
 chain_word n chain body row (suc place) = slice_index body (row * 255 + place)
 
--- the word of the i-th of some rows at a place: first those of nodes, then those of lists, then those of chains. The bodies
--- are those of the chains from one on
-unfoldable pub word_of : Numbers → List (List Spot) → List (List ListWord) → List ChainPlace → ℕ → List (List ℕ) → List ChainRow → ℕ → ℕ → ℕ
-word_of n spots lists chains from bodies rows i place =
+-- the word of the i-th of some rows at a place: first those of nodes, then those of lists, then those of chains
+unfoldable pub word_of : Numbers → List (List Spot) → List (List ListWord) → List ChainPlace → List (List ℕ) → List ChainRow → ℕ → ℕ → ℕ
+word_of n spots lists chains bodies rows i place =
     cond (nat_lt i (length spots))
     (entry_word (placed_entry n (entry_in (slice_index_or spots i []) place)))
     (cond (nat_lt i (length spots + length lists))
     (placed_word n (slice_index_or (slice_index_or lists (i - length spots) []) place (list.Count 0)))
     (let r = slice_index_or rows (i - length spots - length lists) no_row in
-    chain_word n (slice_index_or chains r.chain no_chain) (slice_index_or bodies (r.chain - from) []) r.row place))
+    chain_word n (slice_index_or chains r.chain no_chain) (slice_index_or bodies r.body []) r.row place))

@@ -44,8 +44,8 @@ pub(crate) fn change_is_sound(next: &Next)
     }
 }
 
-// Whether a zone with the key stands.
-fn stands(state: &Super, key: u32) -> bool
+/// Whether a zone with the key stands.
+pub(crate) fn stands(state: &Super, key: u32) -> bool
     ensures { result ≡ has_key key state.now.state.zones }
 {
     for i in 0..state.zones() {

@@ -22,10 +22,11 @@ pub(crate) struct ChainPlace {
     pub count: u32,
 }
 
-/// A chain row: whose it is, counted from 0, and which one of that chain.
+/// A chain row: whose it is, counted from 0, which of the bodies at hand is its own, and which row of that chain it is.
 #[derive(Clone, Copy, Debug, PartialEq, Eq)]
 pub(crate) struct ChainRow {
     pub chain: u32,
+    pub body: u32,
     pub row: u32,
 }
 
@@ -124,12 +125,16 @@ fn body_words(alloc: Global, shape: &Shape) -> Result<Vec<u64>, AllocError>
     Ok(words)
 }
 
-// Puts the rows of one more chain.
+// Puts the rows of one more chain, whose body stands where the chain does.
 fn push_rows(rows: &mut Vec<ChainRow>, chain: u32, count: u32) -> Result<(), AllocError>
     ensures { OnOk result (rows.new.items ≡ rows.old.items ++ rows_from chain 0 count) }
 {
     for row in 0..count {
-        rows.push(ChainRow { chain, row })?;
+        rows.push(ChainRow {
+            chain,
+            body: chain,
+            row,
+        })?;
     }
     Ok(())
 }

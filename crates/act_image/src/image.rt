@@ -79,7 +79,7 @@ impl Image {
         let count = fits(nodes.spots.len())? + lists + fits(chains.rows.len())?;
         let slots = Vec::from_elem(alloc, Slot::New, count as usize)?;
         let gone = Vec::from_slice(alloc, self.rows.as_slice())?;
-        let plan = Plan::from_parts(alloc, nodes, lists, chains, 0, slots, gone)?;
+        let plan = Plan::from_parts(alloc, nodes, lists, chains, slots, gone)?;
         Ok(plan)
     }
 

@@ -21,6 +21,7 @@ mod chains;
 mod first;
 mod fits;
 mod image;
+mod kept;
 mod lists;
 mod nodes;
 mod old;

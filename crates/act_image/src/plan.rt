@@ -23,11 +23,9 @@ pub struct Plan {
     // How many list rows there are.
     pub(crate) list_rows: u32,
     pub(crate) chains: Vec<ChainPlace>,
-    // What stands in the new rows of nodes, in those of lists and in those of chains. The bodies are those of the chains from
-    // one on.
+    // What stands in the new rows of nodes, in those of lists and in those of chains.
     pub(crate) spots: Vec<Spots>,
     pub(crate) lists: Vec<ListRow>,
-    pub(crate) first_body: u32,
     pub(crate) bodies: Vec<Body>,
     pub(crate) chain_rows: Vec<ChainRow>,
     // All rows: those of nodes, then those of lists, then those of chains.
@@ -54,7 +52,6 @@ impl Model for Plan {
       spots = p.spots.items;
       lists = p.lists.items;
       chains = p.chains.items;
-      first_body = p.first_body;
       bodies = p.bodies.items;
       chain_rows = p.chain_rows.items;
       slots = p.slots.items;
@@ -75,7 +72,7 @@ fn row_in(row: u32) -> u32
 }
 
 impl Plan {
-    ghost use Rattle.std.specs.Prelude.{◌≡◌, ◌+◌, ◌-◌, ◌<◌, ◌^◌, [], IfOk, length, slice_index, slice_index_or};
+    ghost use Rattle.std.specs.Prelude.{◌≡◌, ◌+◌, ◌<◌, ◌^◌, [], IfOk, length, slice_index, slice_index_or};
     ghost use Rattle.act_entry.specs.Entries.{IsEntry, entry_word};
     ghost use Rattle.act_entry.specs.References.{IsRow};
     ghost use Rattle.act_image.specs.Words.{chain_head, chain_word, entry_in, no_chain, no_row, placed_entry, placed_ref, placed_word};
@@ -84,19 +81,17 @@ impl Plan {
     ghost use Rattle.act_image.specs.Pics.{IsBound, IsFresh, IsPlan, Pic, numbers_of, planned_word, with_numbers};
     ghost use Rattle.act_image.specs.Made.{IsMade};
 
-    /// A plan of these nodes and chains and so many list rows, whose rows stay or come as the slots say. The bodies are those
-    /// of the chains from one on.
+    /// A plan of these nodes and chains and so many list rows, whose rows stay or come as the slots say.
     pub(crate) fn from_parts(
         alloc: Global,
         nodes: Nodes,
         list_rows: u32,
         chains: Chains,
-        first_body: u32,
         slots: Vec<Slot>,
         gone: Vec<u32>,
     ) -> Result<Plan, NoMemory>
         requires { length slots.items < 2 ^ 32 }
-        ensures { IfOk result (IsMade nodes list_rows chains first_body slots.items gone.items) }
+        ensures { IfOk result (IsMade nodes list_rows chains slots.items gone.items) }
     {
         let all = Vec::from_elem(alloc, 0u32, slots.len())?;
         let rows = Vec::from_elem(alloc, 0u32, count_new(slots.as_slice()))?;
@@ -107,7 +102,6 @@ impl Plan {
             chains: chains.places,
             spots: nodes.spots,
             lists: nodes.lists,
-            first_body,
             bodies: chains.bodies,
             chain_rows: chains.rows,
             slots,
@@ -240,14 +234,13 @@ impl Plan {
     }
 
     fn chain_word(&self, k: usize, place: u8) -> u64
-        ensures { let r = slice_index_or self.now.chain_rows k no_row in result ≡ chain_word (numbers_of self.now) (slice_index_or self.now.chains r.chain no_chain) (slice_index_or self.now.bodies (r.chain - self.now.first_body) []) r.row place }
+        ensures { let r = slice_index_or self.now.chain_rows k no_row in result ≡ chain_word (numbers_of self.now) (slice_index_or self.now.chains r.chain no_chain) (slice_index_or self.now.bodies r.body []) r.row place }
     {
         let r = self.chain_row(k);
         if place == 0 {
             self.chain_head(self.chain(r.chain), r.row)
         } else {
-            let body = r.chain.saturating_sub(self.first_body);
-            self.body_word(body, r.row as usize * 255 + (place as usize - 1))
+            self.body_word(r.body, r.row as usize * 255 + (place as usize - 1))
         }
     }
 
@@ -257,7 +250,11 @@ impl Plan {
         if k < self.chain_rows.len() {
             self.chain_rows[k]
         } else {
-            ChainRow { chain: 0, row: 0 }
+            ChainRow {
+                chain: 0,
+                body: 0,
+                row: 0,
+            }
         }
     }
 

@@ -1,7 +1,10 @@
 //! Rows that stay and rows that come.
 
-ghost use Rattle.std.specs.Prelude.{◌≡◌, length};
+ghost use Rattle.std.specs.Prelude.{◌≡◌, ◌++◌, OnOk, length};
+ghost use Rattle.act_image.specs.Kept.{kept_slots, new_slots};
 ghost use Rattle.act_image.specs.Slots.{new_places, with_rows};
+
+use std::alloc::AllocError;
 
 /// A row of a new image: one that stays from the old image, with its words, or the next new one.
 #[derive(Clone, Copy, Debug, PartialEq, Eq)]
@@ -40,4 +43,24 @@ pub(crate) fn put_rows(all: &mut Vec<u32>, slots: &[Slot], rows: &[u32])
             }
         }
     }
+}
+
+/// Puts rows that stay behind the others.
+pub(crate) fn push_kept(slots: &mut Vec<Slot>, rows: &[u32]) -> Result<(), AllocError>
+    ensures { OnOk result (slots.new.items ≡ slots.old.items ++ kept_slots rows.now) }
+{
+    for row in rows {
+        slots.push(Slot::Kept(*row))?;
+    }
+    Ok(())
+}
+
+/// Puts so many new rows behind the others.
+pub(crate) fn push_new(slots: &mut Vec<Slot>, count: u32) -> Result<(), AllocError>
+    ensures { OnOk result (slots.new.items ≡ slots.old.items ++ new_slots count) }
+{
+    for _i in 0..count {
+        slots.push(Slot::New)?;
+    }
+    Ok(())
 }

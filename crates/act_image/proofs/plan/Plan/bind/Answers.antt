@@ -41,7 +41,6 @@ returns-clause-given c =
       spots = (ap (λ (z : Planned). z.spots) c.self.view_is) i;
       lists = (ap (λ (z : Planned). z.lists) c.self.view_is) i;
       chains = (ap (λ (z : Planned). z.chains) c.self.view_is) i;
-      first_body = (ap (λ (z : Planned). z.first_body) c.self.view_is) i;
       bodies = (ap (λ (z : Planned). z.bodies) c.self.view_is) i;
       chain_rows = (ap (λ (z : Planned). z.chain_rows) c.self.view_is) i;
       slots = (ap (λ (z : Planned). z.slots) c.self.view_is) i;

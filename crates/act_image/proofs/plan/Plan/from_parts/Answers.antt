@@ -23,7 +23,6 @@ returns c =
       spots = refl;
       lists = refl;
       chains = refl;
-      first_body = refl;
       bodies = refl;
       chain_rows = refl;
       slots = refl;
