@@ -1,5 +1,5 @@
 -- Zones on a cell on which the changed zone is Outside.
-use Rattle.std.proofs.Common.{◌≡◌, ℕ, Bool, true, false, if◌then◌else◌, not, cond, refl, sym, ap, ◌∙◌, subst, List, [], ◌∷◌, ◌&&◌, ◌||◌, ◌==◌, eq-eqb, map, nat_lt, Option, Some, None}
+use Rattle.std.proofs.Common.{◌≡◌, ℕ, Bool, true, false, if◌then◌else◌, not, cond, refl, sym, ap, ◌∙◌, subst, List, [], ◌∷◌, ◌&&◌, ◌==◌, eq-eqb, map, nat_lt}
 use Rattle.std.specs.List.{AllByRecursion as Each, filter, list_all}
 use Rattle.act_grid.specs.declared.Point.{Point}
 use Rattle.act_grid.specs.declared.Settings.{Settings}

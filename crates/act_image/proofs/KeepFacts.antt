@@ -39,7 +39,7 @@ use Rattle.act_image.proofs.StayFacts.{list_rows_stay}
 use Rattle.act_image.proofs.StepFacts.{children_nodes}
 
 -- ---- places in lists of slots
-new_length : (n : ℕ) → length (new_slots n) ≡ n
+pub new_length : (n : ℕ) → length (new_slots n) ≡ n
 new_length zero = refl
 new_length (suc n) = ap suc (new_length n)
 
@@ -55,16 +55,16 @@ kept_at rows i low = get_or-map kind.Kept rows i 0 kind.New low
 some_left : (a b : ℕ) → 0 < a + b → (0 < a) ⊎ (0 < b)
 some_left a b h = grind arith
 
-kept_append : (a b : List Slot) (r : ℕ) → times (kept_of (a ++ b)) r ≡ times (kept_of a) r + times (kept_of b) r
+pub kept_append : (a b : List Slot) (r : ℕ) → times (kept_of (a ++ b)) r ≡ times (kept_of a) r + times (kept_of b) r
 kept_append [] b r = omega arith
 kept_append (kind.Kept k ∷ a) b r = omega (arith, kept_append a b r)
 kept_append (kind.New ∷ a) b r = kept_append a b r
 
-kept_all : (rows : List ℕ) → kept_of (kept_slots rows) ≡ rows
+pub kept_all : (rows : List ℕ) → kept_of (kept_slots rows) ≡ rows
 kept_all [] = refl
 kept_all (r ∷ rows) = ap (λ v. r ∷ v) (kept_all rows)
 
-new_none : (n : ℕ) → kept_of (new_slots n) ≡ []
+pub new_none : (n : ℕ) → kept_of (new_slots n) ≡ []
 new_none zero = refl
 new_none (suc n) = new_none n
 

@@ -1,6 +1,5 @@
 -- The cells that are trained in one of two states alone, by keys.
 use Rattle.std.proofs.Common.{◌≡◌, ℕ, ◌+◌, ◌<◌, ◌≤◌, ◌⊎◌, inl, inr, Bool, true, false, if◌then◌else◌, cond, refl, sym, ap, ◌∙◌, subst, arith, append-nil, append_assoc, List, [], ◌∷◌, ◌++◌, ◌&&◌, ◌||◌, count_by, drop, get_or, int_le, length, length-append, map, nat_lt, take, IsPermutation}
-use Rattle.std.specs.List.{filter, list_any}
 use Rattle.std.proofs.lemmas.Bool.Decides.{nat_tests}
 use Rattle.std.proofs.lemmas.Int.{ints}
 use Rattle.std.proofs.lemmas.List.{get_or-map, length-map, nil_from_length, take-append-drop, take-append-le, take_all}

@@ -21,6 +21,14 @@ pub mod OldFacts
 pub mod PathWalk
 pub mod PathTaken
 pub mod PathEnd
+pub mod ClearFacts
+pub mod PruneFacts
+pub mod TurnedFacts
+pub mod LoopFacts
+pub mod KeyFacts
 pub mod AfterFacts
 pub mod ServedFacts
 pub mod FirstFacts
+pub mod PickFacts
+pub mod GoneFacts
+pub mod PathPlan

@@ -1,6 +1,6 @@
 -- Tests of lists, element by element, and the places of the changed zone.
-use Rattle.std.proofs.Common.{◌≡◌, ◌≢◌, ℕ, zero, suc, ◌+◌, ◌<◌, ◌≤◌, ◌⊎◌, inl, inr, Bool, true, false, if◌then◌else◌, not, cond, refl, sym, ap, ◌∙◌, subst, arith, List, [], ◌∷◌, ◌++◌, ◌&&◌, ◌||◌, ◌==◌, eq-eqb, drop, get_or, length, map, nat_lt, take, Option, Some, None}
-use Rattle.std.specs.List.{All, filter, list_all, list_any}
+use Rattle.std.proofs.Common.{◌≡◌, ◌≢◌, ℕ, suc, ◌+◌, ◌<◌, ◌≤◌, Bool, true, false, if◌then◌else◌, not, cond, refl, sym, ap, ◌∙◌, subst, arith, List, [], ◌∷◌, ◌++◌, ◌&&◌, ◌||◌, ◌==◌, eq-eqb, drop, get_or, length, nat_lt, take, Option, Some, None}
+use Rattle.std.specs.List.{list_all, list_any}
 use Rattle.std.proofs.lemmas.Bool.{ne_eqb}
 use Rattle.std.proofs.lemmas.List.{drop_all, drop_more, get_or-map, take_all}
 use Rattle.std.proofs.lemmas.List.Elements.{All-push}
@@ -15,10 +15,9 @@ use Rattle.act_super.specs.declared.entry.Entry.{Entry}
 use Rattle.act_super.specs.declared.entry.Entry.TheVariants as entry
 use Rattle.act_super.specs.declared.entry.State.{State}
 use Rattle.act_super.specs.declared.entry.Zone.{Zone}
-use Rattle.act_super.specs.declared.verdict.Verdict.{Verdict}
 use Rattle.act_super.specs.declared.verdict.Verdict.TheVariants as verdict
 use Rattle.act_super.specs.Changes.{class_given}
-use Rattle.act_super.specs.Grounds.{is_among, same_cell}
+use Rattle.act_super.specs.Grounds.{same_cell}
 use Rattle.act_super.specs.States.{changed, first_cause, has_key, key_of, reshaped, room_verdict, has_zone, shape_of, verdict_of, with_zone, without_key, zone_key_at, zone_shape_at}
 use Rattle.act_image.specs.Fresh.{is_changed, same_cells}
 use Rattle.act_image.specs.Turned.{IsPlaces, is_clear, is_free}

@@ -1,5 +1,5 @@
 -- Cells under which a change has no effect: all nodes there stay.
-use Rattle.std.proofs.Common.{◌≡◌, ℕ, zero, suc, ◌+◌, ◌-◌, ◌<◌, ◌≤◌, ◌⊎◌, inl, inr, Bool, true, false, not, cond, refl, sym, ap, ◌∙◌, subst, arith, List, [], ◌∷◌, ◌++◌, ◌&&◌, ◌||◌, eq-eqb, nat_lt}
+use Rattle.std.proofs.Common.{◌≡◌, ℕ, zero, suc, ◌+◌, ◌<◌, ◌≤◌, ◌⊎◌, inl, inr, Bool, true, false, not, cond, refl, sym, ap, ◌∙◌, subst, arith, List, [], ◌∷◌, ◌&&◌, ◌||◌, eq-eqb, nat_lt}
 use Rattle.std.specs.List.{AllByRecursion as Each, list_all, list_any}
 use Rattle.act_grid.specs.declared.Point.{Point}
 use Rattle.act_grid.specs.declared.Settings.{Settings}
@@ -15,7 +15,7 @@ use Rattle.act_cover.specs.Level.{level_of}
 use Rattle.act_super.specs.declared.entry.Entry.{Entry}
 use Rattle.act_super.specs.declared.entry.State.{State}
 use Rattle.act_super.specs.declared.entry.Zone.{Zone}
-use Rattle.act_super.specs.Grounds.{Ground, is_among, is_mixed, is_split, on, same_cell, some_asks}
+use Rattle.act_super.specs.Grounds.{is_mixed, is_split, on, same_cell, some_asks}
 use Rattle.act_super.specs.NodeParts.{leaves_near, splits_near}
 use Rattle.act_super.specs.Nodes.{IsNode, ground_of, is_parted, node_children, node_leaves}
 use Rattle.act_super.specs.States.{after, changed}

@@ -24,7 +24,7 @@ use Rattle.act_image.proofs.StayFacts.{entry_stays, lists_stay}
 
 -- ---- the copy of an image is that of a plan of all rows
 module _ (settings : Settings) (p : Pic) (x : Sight) (state : State) (shown : Shows settings p x state) where
-  abbrev made : Planned
+  abbrev pub made : Planned
   made = record {
     need = 0;
     root = get_or p.rows 0 0;
@@ -42,7 +42,7 @@ module _ (settings : Settings) (p : Pic) (x : Sight) (state : State) (shown : Sh
     gone = [];
   }
 
-  made_whole : IsWhole settings made state shown.cells
+  pub made_whole : IsWhole settings made state shown.cells
   made_whole = record {
     same = shown.copy.same;
     are = shown.copy.are;
@@ -61,22 +61,22 @@ module _ (settings : Settings) (p : Pic) (x : Sight) (state : State) (shown : Sh
   unfolding rows_in
   own_rows = shown.rows
 
-  made_once : (r : ℕ) → times p.rows r ≤ 1
+  pub made_once : (r : ℕ) → times p.rows r ≤ 1
   made_once r = let same = ap (λ v. times v r) own_rows in omega (arith, same, shown.by_rows.once r)
 
-  made_low : (r : ℕ) → 0 < times p.rows r → (0 < r) × (r < 2 ^ 24)
+  pub made_low : (r : ℕ) → 0 < times p.rows r → (0 < r) × (r < 2 ^ 24)
   made_low r some = shown.by_rows.low r (subst (λ v. 0 < times v r) (sym own_rows) some)
 
-  nodes_many : length p.nodes ≡ length (spots_from settings state 0 1 shown.cells)
+  pub nodes_many : length p.nodes ≡ length (spots_from settings state 0 1 shown.cells)
   nodes_many = ap length shown.copy.nodes ∙ places_length settings state 0 shown.cells ∙ sym (spots_length settings state 0 1 shown.cells)
 
-  made_need : length p.rows ≡ length (spots_from settings state 0 1 shown.cells) + length (flat_map (lists_of settings state) shown.cells) + length (chain_rows_from 0 state.zones)
+  pub made_need : length p.rows ≡ length (spots_from settings state 0 1 shown.cells) + length (flat_map (lists_of settings state) shown.cells) + length (chain_rows_from 0 state.zones)
   made_need = omega (arith, shown.copy.all, shown.copy.lists, nodes_many)
 
-  made_keys : HaveOwnKeys state.zones
+  pub made_keys : HaveOwnKeys state.zones
   made_keys = old_keys settings x p.root state (layout_in p) shown.by_rows
 
-  made_layout : layout_in (installed p made) ≡ layout_in p
+  pub made_layout : layout_in (installed p made) ≡ layout_in p
   unfolding installed layout_in
   made_layout = ap (λ n. layout_in (record { root = p.root; nodes = p.nodes; under = p.under; lists = n; chains = p.chains; rows = p.rows })) (sym shown.copy.lists)
 

@@ -1,7 +1,7 @@
 -- The nodes that don't stay, from each node to its child nodes.
 use Rattle.std.proofs.Common.{◌≡◌, ℕ, zero, suc, ◌+◌, ◌%◌, ◌^◌, ◌<◌, ◌≤◌, ◌⊎◌, inl, inr, Bool, true, false, not, cond, refl, sym, ap, ◌∙◌, subst, arith, append-nil, append_assoc, List, [], ◌∷◌, ◌++◌, ◌&&◌, ◌||◌, get_or, length, nat_lt, take}
-use Rattle.std.specs.List.{AllByRecursion as Each, filter, flat_map, list_all, list_any}
-use Rattle.std.proofs.lemmas.Bool.{ltb-false, ltb-true}
+use Rattle.std.specs.List.{AllByRecursion as Each, filter, flat_map, list_all}
+use Rattle.std.proofs.lemmas.Bool.{ltb-true}
 use Rattle.std.proofs.lemmas.Bool.Decides.{nat_tests}
 use Rattle.std.proofs.lemmas.List.{take_more, take-append-le, take_all}
 use Rattle.std.proofs.lemmas.List.Concat.{flat_map-append}
@@ -13,14 +13,14 @@ use Rattle.act_grid.specs.Cell.{Address, IsCell, IsPart, hull_of, root_cell}
 use Rattle.act_grid.proofs.CellOrder.{in_within, part_from_point, part_within}
 use Rattle.act_super.specs.declared.entry.Entry.{Entry}
 use Rattle.act_super.specs.declared.entry.State.{State}
-use Rattle.act_super.specs.Grounds.{is_among, is_split, same_cell}
+use Rattle.act_super.specs.Grounds.{is_among, same_cell}
 use Rattle.act_super.specs.Laws.{IsLeaf}
 use Rattle.act_super.specs.Nodes.{IsNode, first_leaf, ground_of, is_parted, node_children, node_leaves, nodes_of}
 use Rattle.act_super.specs.States.{after}
 use Rattle.act_probe.proofs.EntryFacts.{node_deep}
 use Rattle.act_probe.proofs.NodeFacts.{Among, node_listed}
 use Rattle.act_probe.proofs.WayFacts.{first_in}
-use Rattle.act_image.specs.Fresh.{branch_stays, leaf_stays, node_stays, same_cells}
+use Rattle.act_image.specs.Fresh.{branch_stays, leaf_stays, same_cells}
 use Rattle.act_image.specs.Plans.{nodes_from}
 use Rattle.act_image.specs.Turned.{is_free, turned_under}
 use Rattle.act_image.proofs.BranchFacts.{branch_is, branch_parts}

@@ -6,3 +6,5 @@ pub mod Fresh
 pub mod Kept
 pub mod Made
 pub mod Paths
+pub mod Turned
+pub mod Gone

@@ -1,13 +1,16 @@
 //! Chains of polygon rows.
 
-ghost use Rattle.std.specs.Prelude.{◌≡◌, ◌+◌, ◌++◌, [], ◌∷◌, List, IfOk, OnOk};
+ghost use Rattle.std.specs.Prelude.{◌≡◌, ◌+◌, ◌++◌, [], ◌∷◌, List, IfOk, OnOk, Some, slice_index_or};
+ghost use Rattle.act_grid.specs.declared.Point.{Point};
 ghost use Rattle.act_geom.specs.Body.{body_of};
 ghost use Rattle.act_super.specs.declared.entry.Zone.{Zone};
+ghost use Rattle.act_super.specs.States.{shape_of};
 ghost use Rattle.act_image.specs.Plans.{IsChains, place_first, rows_from};
 
 use crate::fits::fits;
 use act_geom::{Shape, body_len, body_word};
 use act_grid::NoMemory;
+use act_super::Next;
 use std::alloc::{AllocError, Global};
 use std::marker::Model;
 
@@ -111,6 +114,19 @@ impl Chains {
         }
         0
     }
+}
+
+/// The body of the zone that the change puts, and none where it puts none.
+pub(crate) fn changed_bodies(alloc: Global, next: &Next) -> Result<Vec<Body>, NoMemory>
+    ensures { IfOk result (λ bodies. (shape : List (List Point)) → shape_of next.now.entry ≡ Some shape → slice_index_or bodies.items 0 [] ≡ body_of shape) }
+{
+    let mut bodies = Vec::new(alloc);
+    let Some(shape) = next.shape() else {
+        return Ok(bodies);
+    };
+    let words = body_words(alloc, shape)?;
+    bodies.push(Body::from_vec(words))?;
+    Ok(bodies)
 }
 
 // The words of a shape's body.

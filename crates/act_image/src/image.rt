@@ -1,11 +1,16 @@
 //! The plain copy of the shared rows.
 
 use crate::after::{chains_after, change_is_sound};
-use crate::chains::ChainPlace;
+use crate::chains::{ChainPlace, changed_bodies};
 use crate::fits::fits;
+use crate::gone::gone_rows;
+use crate::kept::{OldChains, kept_chains};
 use crate::nodes::NodePlace;
+use crate::old::Old;
+use crate::path::walk_path;
 use crate::plan::Plan;
 use crate::slots::Slot;
+use crate::turned::Turned;
 use crate::walk::Nodes;
 use act_grid::{Cell, NoMemory};
 use act_super::{Next, Super};
@@ -35,11 +40,13 @@ impl Model for Image {
 }
 
 impl Image {
-    ghost use Rattle.std.specs.Prelude.{◌≡◌, IfOk};
+    ghost use Rattle.std.specs.Prelude.{◌≡◌, ◌≤◌, IfOk};
     ghost use Rattle.act_grid.specs.declared.Settings.{Settings};
     ghost use Rattle.act_base.specs.Sight.{Sight};
     ghost use Rattle.act_super.specs.declared.entry.State.{State};
+    ghost use Rattle.act_super.specs.Sizes.{size_of};
     ghost use Rattle.act_super.specs.States.{IsFor, after};
+    ghost use Rattle.act_image.specs.Fresh.{fresh_rows};
     ghost use Rattle.act_image.specs.Pics.{IsBound, IsPlan, Opens, Shows, installed};
 
     /// The image of no zones: row 1, a node of 256 empty entries.
@@ -80,6 +87,34 @@ impl Image {
         let slots = Vec::from_elem(alloc, Slot::New, count as usize)?;
         let gone = Vec::from_slice(alloc, self.rows.as_slice())?;
         let plan = Plan::from_parts(alloc, nodes, lists, chains, slots, gone)?;
+        Ok(plan)
+    }
+
+    /// A plan of the state after the change that keeps the rows of all that the change leaves: of each node whose branch is
+    /// the same as before, with its lists, and of the chains of all other zones. It asks for the nodes that the change
+    /// touches, and takes a few steps for each other node, list row and chain row.
+    pub fn plan_path(&self, alloc: Global, state: &Super, next: &Next) -> Result<Plan, NoMemory>
+        requires stands { (x : Sight) × Shows state.now.settings self.now x state.now.state }
+        requires next { IsFor state.now.settings state.now.state next.now }
+        ensures { let new = after state.now.settings state.now.state next.now.entry in IfOk result (λ plan. IsPlan state.now.settings self.now plan state.now.state new × ((plan.need ≤ size_of state.now.settings new) × (plan.need ≤ fresh_rows state.now.settings state.now.state next.now.entry))) }
+    {
+        change_is_sound(next);
+        let old = Old {
+            nodes: self.nodes.as_slice(),
+            under: self.under.as_slice(),
+            rows: self.rows.as_slice(),
+        };
+        let before = OldChains {
+            places: self.chains.as_slice(),
+            rows: self.rows.as_slice(),
+            from: self.nodes.len() + self.lists as usize,
+        };
+        let turned = Turned::find(alloc, state, next)?;
+        let chains = kept_chains(alloc, state, next, before)?;
+        let path = walk_path(alloc, state, next, chains.places.as_slice(), &turned, old)?;
+        let gone = gone_rows(alloc, old, before, path.stays.as_slice(), next)?;
+        let bodies = changed_bodies(alloc, next)?;
+        let plan = Plan::from_path(alloc, path, chains, bodies, gone)?;
         Ok(plan)
     }
 

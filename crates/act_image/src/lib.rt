@@ -20,6 +20,7 @@ mod after;
 mod chains;
 mod first;
 mod fits;
+mod gone;
 mod image;
 mod kept;
 mod lists;

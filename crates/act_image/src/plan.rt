@@ -4,8 +4,11 @@ ghost use Rattle.std.specs.Prelude.{◌≡◌};
 ghost use Rattle.act_image.specs.Words.{as_row};
 
 use crate::chains::{Body, ChainPlace, ChainRow, Chains};
+use crate::fits::fits;
+use crate::kept::KeptChains;
 use crate::lists::{ListRow, ListWord};
 use crate::nodes::NodePlace;
+use crate::path::Path;
 use crate::slots::{Slot, count_new, put_rows};
 use crate::spots::Spots;
 use crate::walk::Nodes;
@@ -79,7 +82,7 @@ impl Plan {
     ghost use Rattle.act_grid.specs.declared.Settings.{Settings};
     ghost use Rattle.act_super.specs.declared.entry.State.{State};
     ghost use Rattle.act_image.specs.Pics.{IsBound, IsFresh, IsPlan, Pic, numbers_of, planned_word, with_numbers};
-    ghost use Rattle.act_image.specs.Made.{IsMade};
+    ghost use Rattle.act_image.specs.Made.{IsKeptMade, IsMade};
 
     /// A plan of these nodes and chains and so many list rows, whose rows stay or come as the slots say.
     pub(crate) fn from_parts(
@@ -109,6 +112,53 @@ impl Plan {
             rows,
             gone,
         })
+    }
+
+    /// A plan of what a path keeps and makes.
+    pub(crate) fn from_path(
+        alloc: Global,
+        path: Path,
+        chains: KeptChains,
+        bodies: Vec<Body>,
+        gone: Vec<u32>,
+    ) -> Result<Plan, NoMemory>
+        ensures { IfOk result (IsKeptMade path chains bodies.items gone.items) }
+    {
+        let Path {
+            cells,
+            places,
+            under,
+            node_slots,
+            mut list_slots,
+            spots,
+            lists,
+            ..
+        } = path;
+        let KeptChains {
+            places: chain_places,
+            slots: mut chain_slots,
+            rows,
+            ..
+        } = chains;
+        let list_rows = fits(list_slots.len())?;
+        let mut slots = node_slots;
+        slots.append(&mut list_slots)?;
+        slots.append(&mut chain_slots)?;
+        let _many = fits(slots.len())?;
+        let nodes = Nodes {
+            cells,
+            places,
+            under,
+            spots,
+            lists,
+        };
+        let chains = Chains {
+            places: chain_places,
+            bodies,
+            rows,
+        };
+        let plan = Plan::from_parts(alloc, nodes, list_rows, chains, slots, gone)?;
+        Ok(plan)
     }
 
     /// How many new rows the new image has.

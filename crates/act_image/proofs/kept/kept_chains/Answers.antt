@@ -1,7 +1,6 @@
-use Rattle.std.proofs.Common.{◌≡◌, ◌∙◌, ap, sym, subst, arith, refl, List, drop, Some, None, length}
+use Rattle.std.proofs.Common.{◌≡◌, ◌∙◌, ap, sym, subst, Some}
 use Rattle.std.specs.Option.{option_copied}
-use Rattle.act_grid.specs.declared.Point.{Point}
-use Rattle.act_super.specs.States.{changed, key_of, shape_of}
+use Rattle.act_super.specs.States.{changed, shape_of}
 use Rattle.act_image.specs.Kept.{IsKeptChains, old_chain}
 use Rattle.act_image.proofs.ChainFacts.{dropped_zones, equal_key, has_none, none_changed, reshaped_zones, trained_zones, with_zones}
 use Rattle.act_image.proofs.kept.kept_chains.Goals as goal

@@ -1,10 +1,9 @@
-use Rattle.std.proofs.Common.{◌≡◌, ◌+◌, ◌<◌, ◌≤◌, ◌++◌, ◌&&◌, [], ◌∷◌, Bool, true, false, rules, ap, append-nil, arith, get_or, length, refl, subst, take, sym, ◌∙◌}
+use Rattle.std.proofs.Common.{◌≡◌, ◌+◌, ◌≤◌, ◌++◌, ◌&&◌, true, false, rules, ap, append-nil, arith, get_or, length, sym, ◌∙◌}
 use Rattle.std.specs.List.{flat_map, list_all}
 use Rattle.std.proofs.lemmas.List.{get_or_read, take_all}
 use Rattle.act_grid.specs.Cell.{Address, root_cell}
 use Rattle.act_super.specs.declared.entry.Entry.{Entry}
-use Rattle.act_super.specs.declared.entry.State.{State}
-use Rattle.act_super.specs.Nodes.{IsNode, node_children, node_leaves}
+use Rattle.act_super.specs.Nodes.{IsNode, node_children}
 use Rattle.act_super.specs.States.{after}
 use Rattle.act_probe.proofs.EntryFacts.{node_deep}
 use Rattle.act_image.specs.Fresh.{branch_stays, same_cells}

@@ -1,9 +1,8 @@
-use Rattle.std.proofs.Common.{◌≡◌, ◌+◌, ◌≤◌, ◌++◌, [], ◌∷◌, rules, ap, arith, get_or, length, take, sym, ◌∙◌}
+use Rattle.std.proofs.Common.{◌≡◌, ◌+◌, ◌≤◌, ◌++◌, [], ◌∷◌, rules, ap, get_or, take, ◌∙◌}
 use Rattle.std.specs.List.{flat_map}
 use Rattle.std.proofs.lemmas.List.{get_or_read, take_all}
 use Rattle.act_grid.specs.Cell.{Address, root_cell}
 use Rattle.act_super.specs.declared.entry.Entry.{Entry}
-use Rattle.act_super.specs.declared.entry.State.{State}
 use Rattle.act_super.specs.Nodes.{IsNode, node_children}
 use Rattle.act_super.specs.States.{after}
 use Rattle.act_probe.proofs.EntryFacts.{node_deep}

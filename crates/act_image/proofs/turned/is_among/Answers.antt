@@ -1,4 +1,4 @@
-use Rattle.std.proofs.Common.{◌≡◌, ◌+◌, ◌||◌, true, false, arith, ap, drop, get_or, sym, ◌∙◌}
+use Rattle.std.proofs.Common.{◌≡◌, ◌+◌, ◌||◌, true, false, ap, drop, sym, ◌∙◌}
 use Rattle.act_super.specs.Grounds.{is_among, same_cell}
 use Rattle.act_image.proofs.LoopFacts.{any_end, any_step}
 use Rattle.act_image.proofs.turned.is_among.Goals as goal

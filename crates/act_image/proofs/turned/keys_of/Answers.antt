@@ -1,4 +1,4 @@
-use Rattle.std.proofs.Common.{sym, ◌∙◌}
+use Rattle.std.proofs.Common.{◌∙◌}
 use Rattle.std.proofs.lemmas.List.Sorted.{IsNonDecreasingBy-from_sort}
 use Rattle.act_image.proofs.KeyFacts.{keys_tell}
 use Rattle.act_image.proofs.turned.keys_of.Goals as goal

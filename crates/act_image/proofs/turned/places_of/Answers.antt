@@ -1,4 +1,4 @@
-use Rattle.std.proofs.Common.{◌≡◌, ◌+◌, ◌<◌, ◌++◌, [], ◌∷◌, List, ℕ, Some, ap, arith, length, subst, sym, take, ◌∙◌}
+use Rattle.std.proofs.Common.{◌≡◌, ◌+◌, ◌<◌, List, ℕ, Some, ap, arith, length, subst, sym, take, ◌∙◌}
 use Rattle.act_super.specs.declared.entry.Entry.{Entry}
 use Rattle.act_super.specs.States.{key_of}
 use Rattle.act_image.specs.Turned.{IsPlaces}

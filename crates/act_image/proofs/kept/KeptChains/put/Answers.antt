@@ -1,7 +1,6 @@
-use Rattle.std.proofs.Common.{◌≡◌, ◌+◌, ◌/◌, ap, arith, length, refl, ◌∙◌}
+use Rattle.std.proofs.Common.{◌≡◌, ◌+◌, ◌/◌, ap, arith, length, refl}
 use Rattle.act_geom.proofs.BodyFacts.{length-body}
 use Rattle.act_geom.specs.Rings.{vertices_of}
-use Rattle.act_super.specs.Sizes.{chain_rows}
 use Rattle.act_image.proofs.ChainFacts.{put_more}
 use Rattle.act_image.proofs.kept.KeptChains.put.Goals as goal
 

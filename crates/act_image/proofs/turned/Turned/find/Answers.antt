@@ -1,6 +1,5 @@
-use Rattle.std.proofs.Common.{◌≡◌, ◌++◌, [], ap, sym, ◌∙◌}
+use Rattle.std.proofs.Common.{◌≡◌, ◌++◌, [], ◌∙◌}
 use Rattle.act_grid.specs.Cell.{root_cell}
-use Rattle.act_probe.proofs.EntryFacts.{root_node}
 use Rattle.act_super.specs.declared.entry.Entry.{Entry}
 use Rattle.act_super.specs.States.{after}
 use Rattle.act_image.specs.Turned.{turned_under}
