@@ -17,6 +17,7 @@ pub mod ChainFacts
 pub mod WordFacts
 pub mod BuildFacts
 pub mod StepFacts
+pub mod FirstPlace
 pub mod OldFacts
 pub mod PathWalk
 pub mod PathTaken

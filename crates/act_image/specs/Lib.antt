@@ -6,5 +6,6 @@ pub mod Fresh
 pub mod Kept
 pub mod Made
 pub mod Paths
+pub mod Firsts
 pub mod Turned
 pub mod Gone

@@ -7,16 +7,16 @@ ghost use Rattle.act_super.specs.Nodes.{IsNode};
 ghost use Rattle.act_super.specs.States.{IsFor, after, changed};
 ghost use Rattle.act_image.specs.declared.nodes.NodePlace.{NodePlace};
 ghost use Rattle.act_image.specs.Fresh.{branch_stays};
-ghost use Rattle.act_image.specs.Kept.{kept_slots, new_slots};
 ghost use Rattle.act_image.specs.Paths.{HaveOwnCells, IsOld, IsPath, StaysIn, places_on, source_in};
 ghost use Rattle.act_image.specs.Plans.{chains_from};
 
 use crate::chains::ChainPlace;
+use crate::first::Firsts;
 use crate::fits::fits;
 use crate::lists::ListRow;
 use crate::nodes::NodePlace;
 use crate::old::{Old, child_starts, place_of};
-use crate::slots::Slot;
+use crate::slots::{Slot, push_kept, push_new};
 use crate::spots::Spots;
 use crate::turned::Turned;
 use crate::walk::{NodeMade, node_made};
@@ -71,26 +71,6 @@ fn push_places(sources: &mut Vec<Option<u32>>, first: u32, count: u32) -> Result
 {
     for i in 0..count {
         sources.push(Some(first + i))?;
-    }
-    Ok(())
-}
-
-// Puts rows that stay behind the others.
-fn push_kept(slots: &mut Vec<Slot>, rows: &[u32]) -> Result<(), AllocError>
-    ensures { OnOk result (slots.new.items ≡ slots.old.items ++ kept_slots rows.now) }
-{
-    for row in rows {
-        slots.push(Slot::Kept(*row))?;
-    }
-    Ok(())
-}
-
-// Puts so many new rows behind the others.
-fn push_new(slots: &mut Vec<Slot>, count: u32) -> Result<(), AllocError>
-    ensures { OnOk result (slots.new.items ≡ slots.old.items ++ new_slots count) }
-{
-    for _i in 0..count {
-        slots.push(Slot::New)?;
     }
     Ok(())
 }
@@ -212,7 +192,7 @@ impl Walker {
         alloc: Global,
         state: &Super,
         next: &Next,
-        places: &[ChainPlace],
+        places: &Firsts,
         turned: &Turned,
         old: Old,
         k: u32,
@@ -258,7 +238,7 @@ impl Walker {
         alloc: Global,
         state: &Super,
         next: &Next,
-        places: &[ChainPlace],
+        places: &Firsts,
         turned: &Turned,
         old: Old,
         starts: &[u32],
@@ -327,6 +307,7 @@ pub(crate) fn walk_path(
     requires copy { (cells : List Address) × IsOld state.now.settings state.now.state old.nodes.now old.under.now old.rows.now cells }
     ensures { IfOk result (IsPath state.now.settings state.now.state (after state.now.settings state.now.state next.now.entry) next.now.entry old.entry.nodes.now old.entry.rows.now) }
 {
+    let firsts = Firsts::new(places);
     let starts = child_starts(alloc, old.under)?;
     let mut walker = Walker::root(alloc, state, next, turned, old)?;
     for k in 0..u32::MAX {
@@ -338,7 +319,7 @@ pub(crate) fn walk_path(
             alloc,
             state,
             next,
-            places,
+            &firsts,
             turned,
             old,
             starts.as_slice(),

@@ -10,8 +10,8 @@ ghost use Rattle.act_super.specs.Stands.{entry_for};
 ghost use Rattle.act_super.specs.States.{IsFor, after, changed, has_key};
 ghost use Rattle.act_image.specs.Plans.{IsChains, IsLeafOf, IsWalk, IsWalked, chains_from, child_spots, filled, found_refs, leaf_spots, lists_of, no_fill, put_list, put_lists, refs_on, slot_refs, spot_at, spots_of, start_at};
 
-use crate::chains::{ChainPlace, Chains};
-use crate::first::first_of;
+use crate::chains::Chains;
+use crate::first::Firsts;
 use crate::fits::fits;
 use crate::lists::{Fill, ListRow, put_list};
 use crate::nodes::NodePlace;
@@ -49,13 +49,13 @@ struct NodeParts {
 }
 
 // The references by where the chains of their zones begin.
-fn slots(alloc: Global, places: &[ChainPlace], refs: &[ZoneRef]) -> Result<Vec<Ref>, AllocError>
+fn slots(alloc: Global, places: &Firsts, refs: &[ZoneRef]) -> Result<Vec<Ref>, AllocError>
     ensures { IfOk result (λ slots. slots.items ≡ found_refs places.now refs.now) }
 {
     let mut slots = Vec::with_capacity(alloc, refs.len())?;
     for r in refs {
         slots.push(Ref {
-            row: first_of(places, r.key),
+            row: places.of(r.key),
             hit: r.hit,
         })?;
     }
@@ -79,7 +79,7 @@ fn leaf_part(
     alloc: Global,
     state: &Super,
     next: &Next,
-    places: &[ChainPlace],
+    places: &Firsts,
     level: u32,
     base: u32,
     leaf: Cell,
@@ -113,7 +113,7 @@ fn leaf_parts(
     alloc: Global,
     state: &Super,
     next: &Next,
-    places: &[ChainPlace],
+    places: &Firsts,
     level: u32,
     base: u32,
     leaves: &[Cell],
@@ -164,7 +164,7 @@ pub(crate) fn node_made(
     alloc: Global,
     state: &Super,
     next: &Next,
-    places: &[ChainPlace],
+    places: &Firsts,
     cell: Cell,
     base: u32,
     slot: u32,
@@ -199,7 +199,7 @@ pub(crate) fn node_made(
 impl Nodes {
     ghost use Rattle.std.specs.Prelude.{◌≡◌, ◌+◌, ◌<◌, IfOk, OnOk, length};
     ghost use Rattle.act_super.specs.States.{IsFor, after, changed};
-    ghost use Rattle.act_image.specs.Plans.{IsChains, IsWalk, IsWalked};
+    ghost use Rattle.act_image.specs.Plans.{IsChains, IsWalk, IsWalked, chains_from};
 
     /// All nodes of the state after the change. It asks once for each node.
     pub fn walk(
@@ -212,12 +212,13 @@ impl Nodes {
         requires chains { IsChains (changed state.now.state.zones next.now.entry) chains.now }
         ensures { IfOk result (IsWalked state.now.settings (after state.now.settings state.now.state next.now.entry)) }
     {
+        let places = Firsts::new(chains.places.as_slice());
         let mut nodes = Nodes::root(alloc, state, next)?;
         for k in 0..u32::MAX {
             if k as usize == nodes.cells.len() {
                 return Ok(nodes);
             }
-            nodes.step(alloc, state, next, chains, k)?;
+            nodes.step(alloc, state, next, &places, k)?;
         }
         Err(NoMemory)
     }
@@ -243,11 +244,11 @@ impl Nodes {
         alloc: Global,
         state: &Super,
         next: &Next,
-        chains: &Chains,
+        places: &Firsts,
         k: u32,
     ) -> Result<(), NoMemory>
         requires prepared { IsFor state.now.settings state.now.state next.now }
-        requires chains { IsChains (changed state.now.state.zones next.now.entry) chains.now }
+        requires places { places.now ≡ chains_from 0 (changed state.now.state.zones next.now.entry) }
         requires walk { IsWalk state.now.settings (after state.now.settings state.now.state next.now.entry) k self.old }
         requires within { k < length self.old.cells.items }
         ensures { OnOk result (IsWalk state.now.settings (after state.now.settings state.now.state next.now.entry) (k + 1) self.new) }
@@ -255,15 +256,7 @@ impl Nodes {
         let cell = self.cells[k as usize];
         let base = fits(self.lists.len())?;
         let slot = fits(self.cells.len())?;
-        let made = node_made(
-            alloc,
-            state,
-            next,
-            chains.places.as_slice(),
-            cell,
-            base,
-            slot,
-        )?;
+        let made = node_made(alloc, state, next, places, cell, base, slot)?;
         let NodeMade {
             spots,
             mut rows,

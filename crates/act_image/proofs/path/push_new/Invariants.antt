@@ -1,6 +1,0 @@
-use Rattle.std.proofs.Common.{◌≡◌, ◌-◌, ◌++◌}
-use Rattle.act_image.specs.Kept.{new_slots}
-use Rattle.act_image.proofs.path.push_new.Given as goal
-
-abbrev pub invariant-loop-i : goal.invariant-loop-i
-invariant-loop-i l = l.fn.slots.items ++ new_slots l.count ≡ l.slots.items ++ new_slots (l.count - l._i)
