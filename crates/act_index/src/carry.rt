@@ -1,7 +1,7 @@
 //! A prepared change is carried through, or stopped.
 
 ghost use Rattle.std.specs.Prelude.{◌≡◌, ℕ, ◌+◌, ◌*◌, ◌^◌, ◌<◌, ◌≤◌, None, IfOk, IfErr};
-ghost use Rattle.act_super.specs.Sizes.{size_of};
+ghost use Rattle.act_image.specs.Fresh.{fresh_rows};
 ghost use Rattle.act_super.specs.States.{IsFor, after, key_of, needs, split_of};
 ghost use Rattle.act_rows.specs.Versions.{newest};
 ghost use Rattle.act_index.specs.Whole.{IsWhole, parts};
@@ -44,7 +44,7 @@ pub(crate) fn carry<L: Ledger>(
     ensures whole { IsWhole (parts master.new plain.new image.new pool.new) }
     ensures ok { IfOk result (λ _. IsGrown (parts master.old plain.old image.old pool.old) (parts master.new plain.new image.new pool.new) next.entry) }
     ensures version { IfOk result (λ version. (version ≡ newest master.new.desk) × (version < 2 ^ 40)) }
-    ensures ticks { IfOk result (λ _. steps.new ≤ steps.old + 256 * size_of plain.new.settings plain.new.state) }
+    ensures ticks { IfOk result (λ _. steps.new ≤ steps.old + 256 * fresh_rows plain.old.settings plain.old.state next.entry) }
     ensures err { IfErr result (λ stopped. IsRefused (parts master.old plain.old image.old pool.old) (parts master.new plain.new image.new pool.new) next.entry stopped.why) }
     ensures left { IfErr result (λ _. IsLeft (parts master.old plain.old image.old pool.old) (parts master.new plain.new image.new pool.new)) }
     ensures quiet { IfErr result (λ stopped. (stopped.next ≡ next) × (steps.new ≡ steps.old)) }
@@ -56,7 +56,7 @@ pub(crate) fn carry<L: Ledger>(
             next,
         });
     }
-    let Ok(mut plan) = image.plan_whole(alloc, plain, &next) else {
+    let Ok(mut plan) = image.plan_path(alloc, plain, &next) else {
         return Err(Stopped {
             why: Refused::NoMemory,
             next,

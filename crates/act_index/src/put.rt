@@ -3,7 +3,6 @@
 ghost use Rattle.std.specs.Prelude.{◌≡◌, ℕ, ◌+◌, ◌*◌, ◌^◌, ◌<◌, ◌≤◌, ◌++◌, length, slice_index};
 ghost use Rattle.act_base.specs.Counting.{times};
 ghost use Rattle.act_super.specs.States.{IsFor, IsAllowed, after, needs};
-ghost use Rattle.act_super.specs.Sizes.{size_of};
 ghost use Rattle.act_rows.specs.Asked.{MayStore, MayPublish};
 ghost use Rattle.act_rows.specs.Versions.{newest};
 ghost use Rattle.act_pool.specs.Retired.{rows_of, Each};
@@ -107,7 +106,7 @@ pub(crate) fn put_through<L: Ledger>(
     requires room { needs next.entry ≤ plain.old.spare }
     ensures whole { IsWhole (parts master.new plain.new image.new pool.new) }
     ensures grown { IsGrown (parts master.old plain.old image.old pool.old) (parts master.new plain.new image.new pool.new) next.entry }
-    ensures ticks { steps.new ≤ steps.old + 256 * size_of plain.new.settings plain.new.state }
+    ensures ticks { steps.new ≡ steps.old + 256 * plan.need }
 {
     let version = master.version();
     write_all(master, &plan, steps);

@@ -1,7 +1,8 @@
 //! Training.
 
 ghost use Rattle.std.specs.Prelude.{◌≡◌, ◌+◌, ◌*◌, ◌≤◌, IfOk, IfErr, length};
-ghost use Rattle.act_super.specs.Sizes.{size_of};
+ghost use Rattle.act_image.specs.Fresh.{fresh_rows};
+ghost use Rattle.act_super.specs.declared.entry.Entry.TheVariants.{Train};
 ghost use Rattle.act_super.specs.Training.{trained_more};
 ghost use Rattle.act_index.specs.Calls.{IsLeft, IsTrained, IsUntrained};
 
@@ -26,7 +27,7 @@ impl Writer {
         requires threshold { 1 ≤ threshold }
         requires few { length sample.now ≤ 65536 }
         ensures ok { IfOk result (λ done. IsTrained self.old self.new (trained_more self.old.settings self.old.state sample.now threshold) done) }
-        ensures ticks { IfOk result (λ _. steps.new ≤ steps.old + 256 * size_of self.new.settings self.new.state) }
+        ensures ticks { IfOk result (λ _. steps.new ≤ steps.old + 256 * fresh_rows self.old.settings self.old.state (Train (trained_more self.old.settings self.old.state sample.now threshold))) }
         ensures err { IfErr result (λ why. IsUntrained self.old self.new (trained_more self.old.settings self.old.state sample.now threshold) why) }
         ensures left { IfErr result (λ _. IsLeft self.old self.new × (steps.new ≡ steps.old)) }
         ensures table { self.new.table ≡ self.old.table }

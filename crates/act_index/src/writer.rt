@@ -83,7 +83,7 @@ impl Writer {
     ghost use Rattle.act_rows.specs.History.{Begins};
     ghost use Rattle.act_rows.specs.Updates.{lent, newcomer, returned};
     ghost use Rattle.act_rows.specs.Versions.{newest};
-    ghost use Rattle.act_super.specs.Sizes.{size_of};
+    ghost use Rattle.act_image.specs.Fresh.{fresh_rows};
     ghost use Rattle.act_super.specs.States.{nothing};
     ghost use Rattle.act_super.specs.declared.entry.Entry.TheVariants.{Add, DropZone, Replace};
     ghost use Rattle.act_index.specs.Calls.{IsDone, IsGrown, IsLeft, IsRefused};
@@ -133,7 +133,7 @@ impl Writer {
         steps: &mut Steps<L>,
     ) -> Result<Done, Turned>
         ensures ok { IfOk result (λ done. IsGrown self.old self.new (Add key shape) × IsDone self.new 0 done) }
-        ensures ticks { IfOk result (λ _. steps.new ≤ steps.old + 256 * size_of self.new.settings self.new.state) }
+        ensures ticks { IfOk result (λ _. steps.new ≤ steps.old + 256 * fresh_rows self.old.settings self.old.state (Add key shape)) }
         ensures err { IfErr result (λ turned. (turned.shape ≡ shape) × IsRefused self.old self.new (Add key shape) turned.why) }
         ensures left { IfErr result (λ _. IsLeft self.old self.new × (steps.new ≡ steps.old)) }
         ensures table { self.new.table ≡ self.old.table }
@@ -176,7 +176,7 @@ impl Writer {
     /// Drops a zone. After an `Err` no word was stored, and the history, the state and the image are as before.
     pub fn drop_zone<L: Ledger>(&mut self, key: u32, steps: &mut Steps<L>) -> Result<Done, Refused>
         ensures ok { IfOk result (λ done. IsGrown self.old self.new (DropZone key) × IsDone self.new 0 done) }
-        ensures ticks { IfOk result (λ _. steps.new ≤ steps.old + 256 * size_of self.new.settings self.new.state) }
+        ensures ticks { IfOk result (λ _. steps.new ≤ steps.old + 256 * fresh_rows self.old.settings self.old.state (DropZone key)) }
         ensures err { IfErr result (λ why. IsRefused self.old self.new (DropZone key) why) }
         ensures left { IfErr result (λ _. IsLeft self.old self.new × (steps.new ≡ steps.old)) }
         ensures table { self.new.table ≡ self.old.table }
@@ -215,7 +215,7 @@ impl Writer {
         steps: &mut Steps<L>,
     ) -> Result<Done, Turned>
         ensures ok { IfOk result (λ done. IsGrown self.old self.new (Replace key shape) × IsDone self.new 0 done) }
-        ensures ticks { IfOk result (λ _. steps.new ≤ steps.old + 256 * size_of self.new.settings self.new.state) }
+        ensures ticks { IfOk result (λ _. steps.new ≤ steps.old + 256 * fresh_rows self.old.settings self.old.state (Replace key shape)) }
         ensures err { IfErr result (λ turned. (turned.shape ≡ shape) × IsRefused self.old self.new (Replace key shape) turned.why) }
         ensures left { IfErr result (λ _. IsLeft self.old self.new × (steps.new ≡ steps.old)) }
         ensures table { self.new.table ≡ self.old.table }

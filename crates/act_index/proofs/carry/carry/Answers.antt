@@ -10,8 +10,8 @@ use Rattle.act_index.specs.Written.{IsReady}
 use Rattle.act_index.proofs.Carried.{stands_now, whole_looked, held_by, ready}
 use Rattle.act_index.proofs.carry.carry.Goals as goal
 
-pub plan_whole-requires-clause-stands : goal.plan_whole-requires-clause-stands
-plan_whole-requires-clause-stands g c = stands_now (parts c.args.master.now c.args.plain.now c.args.image.now c.args.pool.now) c.requires.whole c.version-version.ensures.kept
+pub plan_path-requires-clause-stands : goal.plan_path-requires-clause-stands
+plan_path-requires-clause-stands g c = stands_now (parts c.args.master.now c.args.plain.now c.args.image.now c.args.pool.now) c.requires.whole c.version-version.ensures.kept
 
 pub returns-in_default-take-clause-whole : goal.returns-in_default-take-clause-whole
 returns-in_default-take-clause-whole g c =
@@ -35,7 +35,7 @@ returns-in_default-take-clause-err g c =
     let many = look.watched.as_many in
     let held : IsHeldBy w (record w { desk = d; pool = c.reclaim.new.self }) c.args.next.entry c.look_at_all-lowest.result.reader c.look_at_all-lowest.result.bound c.look_at_all-lowest.result.word
     = held_by w d c.look_at_all-lowest.result.bound c.reclaim.new.self c.requires.whole look.watched look.least c.reclaim.ensures
-    c.look_at_all-lowest.result.reader c.look_at_all-lowest.result.word c.in-Ok.plan.need w.desk.pins c.args.next.entry look.found (omega arith) (omega arith) c.in-Ok.ensures.0.few c.requires.next.within.rows in (
+    c.look_at_all-lowest.result.reader c.look_at_all-lowest.result.word c.in-Ok.plan.need w.desk.pins c.args.next.entry look.found (omega arith) (omega arith) c.in-Ok.ensures.1.0 c.requires.next.within.rows in (
       c.requires.next.accepted,
       subst (λ (z : TableId × Pooled). IsHeldBy w (record w { table = z.0; desk = d; pool = z.1 }) c.args.next.entry c.look_at_all-lowest.result.reader c.look_at_all-lowest.result.bound c.look_at_all-lowest.result.word) (λ i. (sym look.table i, sym e.2 i)) held,
     )
