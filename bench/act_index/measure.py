@@ -1,0 +1,85 @@
+#!/usr/bin/env python3
+"""How fast an index answers and changes, beside GEOS; with --stress, whether its answers are right beside updates.
+
+The programs are kept here with .txt appended to each file's name, since the gate takes sources in crates/
+alone. This copies the crates that they stand on to a folder of its own, with what their checks keep in out/
+where there is any, puts the program beside them, proves and builds it by `rt run`, and runs it.
+
+GEOS answers the same points and polygons in turn with the index (apt-get install libgeos-dev).
+"""
+import pathlib
+import shutil
+import statistics
+import subprocess
+import sys
+import tempfile
+
+HERE = pathlib.Path(__file__).resolve().parent
+TOP = HERE.parent.parent
+USES = 'act_grid act_io act_geom act_base act_index'
+TURNS = 3
+
+
+def listed():
+    """The line of each crate in crates.txt, and the crates that it names."""
+    lines = {}
+    for line in (TOP / 'crates.txt').read_text().splitlines():
+        head, _, uses = line.partition(':')
+        if head.split():
+            lines[head.split()[0]] = (line, uses.split())
+    return lines
+
+
+def made(scratch, name):
+    """Builds one of the programs in the scratch folder."""
+    lines, wanted, text = listed(), USES.split(), ''
+    for crate in wanted:
+        if crate not in lines:
+            continue
+        text += lines[crate][0] + '\n'
+        wanted += [use for use in lines[crate][1] if use not in wanted]
+        if not (scratch / 'crates' / crate).exists():
+            shutil.copytree(TOP / 'crates' / crate, scratch / 'crates' / crate)
+    for kept in (HERE / name).rglob('*.txt'):
+        to = scratch / 'crates' / name / kept.relative_to(HERE / name).with_suffix('')
+        to.parent.mkdir(parents=True, exist_ok=True)
+        shutil.copy(kept, to)
+    shutil.copy(TOP / 'HANDLES', scratch)
+    (scratch / 'crates.txt').write_text(f'{text}{name}: {USES}\n')
+    done = subprocess.run(['rt', 'run', '--jobs', '1'], cwd=scratch / 'crates' / name, stdout=subprocess.PIPE, text=True)
+    sys.stdout.write(''.join(done.stdout.splitlines(True)[-40:]))
+    done.check_returncode()
+    return scratch / 'crates' / name / 'out' / name
+
+
+def told(command, found, side):
+    """Runs a program. Keeps its rates in points a second, and gives how many zones each case had."""
+    zones = {}
+    for line in subprocess.run(command, stdout=subprocess.PIPE, text=True, check=True).stdout.splitlines():
+        print(f'  {side} {line}', flush=True)
+        words = line.split()
+        if words[1] == 'zones':
+            zones[words[0]] = words[2]
+        elif len(words) > 5 and words[3] == 'points':
+            found.setdefault((words[0], words[1], side), []).append(int(words[2]) / int(words[4]))
+    return zones
+
+
+def main():
+    scratch = pathlib.Path(tempfile.mkdtemp(prefix='act_index_bench_'))
+    if '--stress' in sys.argv:
+        made(scratch, 'index_stress')
+    else:
+        mine, geos, found = made(scratch, 'index_cost'), scratch / 'geos_cost', {}
+        subprocess.run(['cc', '-O2', '-o', geos, HERE / 'geos_cost.c', '-lgeos_c'], check=True)
+        for _ in range(TURNS):
+            zones = told([mine], found, 'index')
+            told([geos] + [f'{name}={count}' for name, count in zones.items()], found, 'geos')
+        for (name, how, side), rates in found.items():
+            beside = statistics.median(found[name, 'one', 'geos'])
+            rate = statistics.median(rates)
+            print(f'{name} {how} {side}: {rate:.2f} million points a second, {rate / beside:.1f} times GEOS')
+    shutil.rmtree(scratch)
+
+
+main()
