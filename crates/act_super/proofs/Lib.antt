@@ -19,6 +19,7 @@ pub mod HistoryFacts
 pub mod LawFacts
 pub mod BlankFacts
 pub mod BlockFacts
+pub mod BoundFacts
 pub mod AddFacts
 pub mod ShiftFacts
 pub mod RoomFacts

@@ -23,4 +23,4 @@ pub mod Lending
 pub mod Histories
 pub mod Laws
 pub mod Joins
-pub mod Blocks
+pub mod Bounds

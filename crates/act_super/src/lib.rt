@@ -24,7 +24,9 @@
 mod after;
 mod blocks;
 mod both;
+mod bounds;
 mod chosen;
+mod ends;
 mod entry;
 mod fit;
 mod frame;

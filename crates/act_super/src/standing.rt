@@ -45,8 +45,8 @@ impl Standing {
         }
     }
 
-    /// How the shape lies on the cell, whose hull is given. A cell apart from the box or around it takes constant time,
-    /// and any other one a look at the blocks of edges, and at the edges in those near the cell.
+    /// How the shape lies on the cell, whose hull is given. A cell apart from the box or around it takes constant time, and
+    /// any other one a look at what bounds each 1,024 edges, and at the blocks of 16 edges in those near the cell.
     #[inline]
     pub fn class_on(&self, cell: Cell, hull: Hull) -> Class
         requires { hull ≡ hull_of cell }

@@ -1,22 +1,20 @@
-use Rattle.std.proofs.Common.{◌∙◌, pos, subst, sym}
-use Rattle.std.specs.List.{All}
+use Rattle.std.proofs.Common.{◌∙◌, sym}
 use Rattle.act_geom.specs.Touch.{touches_hull}
-use Rattle.act_super.specs.Blocks.{AreFramed, IsSideIn}
-use Rattle.act_super.proofs.BlockFacts.{any_after, any_here, framed_at}
+use Rattle.act_super.proofs.BlockFacts.{any_after, any_here, bound_at, bound_behind}
 use Rattle.act_super.proofs.blocks.any_touches.Goals as goal
 
-pub block_touches-requires-clause-framed : goal.block_touches-requires-clause-framed
-block_touches-requires-clause-framed c =
-    subst (All (IsSideIn _)) (sym c.cut.ensures.first) (framed_at c.args.frames.now c.loop-frame.frame-index _ c.loop-frame.rest.now c.loop-frame-test.true c.loop-frame.invariant.framed).0
+pub block_touches-requires-clause-bound : goal.block_touches-requires-clause-bound
+block_touches-requires-clause-bound c =
+    bound_at 16 c.args.blocks.now c.loop-bounds.bounds-index c.bounds-item.result c.loop-bounds.rest.now c.cut.result.0.now c.loop-bounds-test.true c.bounds-item.is c.cut.ensures.first c.loop-bounds.invariant.bound
 
 pub returns-then-block_touches : goal.returns-then-block_touches
 returns-then-block_touches c =
-    any_here (touches_hull c.args.hull) c.args.sides.now c.loop-frame.rest.now c.cut.result.0.now c.cut.result.1.now c.cut.ensures.first c.cut.ensures.rest c.loop-frame.invariant.none
+    any_here 16 (touches_hull c.args.hull) c.args.sides.now c.loop-bounds.rest.now c.cut.result.0.now c.cut.result.1.now c.cut.ensures.first c.cut.ensures.rest c.loop-bounds.invariant.none
     (sym c.block_touches.ensures ∙ c.if-block_touches.true)
 
-pub loop-frame-preserved : goal.loop-frame-preserved
-loop-frame-preserved c = record {
-  framed = subst (AreFramed _) (sym c.cut.ensures.rest) (framed_at c.args.frames.now c.loop-frame.frame-index (record { lo = record { x = pos 0; y = pos 0 }; hi = record { x = pos 0; y = pos 0 } }) c.loop-frame.rest.now c.loop-frame-test.true c.loop-frame.invariant.framed).1;
-  none = any_after (touches_hull c.args.hull) c.args.sides.now c.loop-frame.rest.now c.cut.result.0.now c.cut.result.1.now c.cut.ensures.first c.cut.ensures.rest c.loop-frame.invariant.none
+pub loop-bounds-preserved : goal.loop-bounds-preserved
+loop-bounds-preserved c = record {
+  bound = bound_behind 16 c.args.blocks.now c.loop-bounds.bounds-index c.bounds-item.result c.loop-bounds.rest.now c.cut.result.1.now c.loop-bounds-test.true c.cut.ensures.rest c.loop-bounds.invariant.bound;
+  none = any_after 16 (touches_hull c.args.hull) c.args.sides.now c.loop-bounds.rest.now c.cut.result.0.now c.cut.result.1.now c.cut.ensures.first c.cut.ensures.rest c.loop-bounds.invariant.none
       (sym c.block_touches.ensures ∙ c.if-block_touches.false);
 }

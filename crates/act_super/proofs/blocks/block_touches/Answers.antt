@@ -3,4 +3,4 @@ use Rattle.act_super.proofs.BlockFacts.{none_touches}
 use Rattle.act_super.proofs.blocks.block_touches.Goals as goal
 
 pub returns-then-is_apart : goal.returns-then-is_apart
-returns-then-is_apart c = sym (none_touches c.args.frame c.args.hull c.args.block.now c.requires.framed (sym c.is_apart.ensures ∙ c.if-is_apart.true))
+returns-then-is_apart c = sym (none_touches c.args.bounds.now.frame c.args.hull c.args.block.now c.requires.bound.framed (sym c.is_apart.ensures ∙ c.if-is_apart.true))

@@ -1,6 +1,6 @@
 use Rattle.std.proofs.Common.{◌≡◌, drop}
 use Rattle.act_geom.specs.Inside.{counts, differ, is_odd_by}
-use Rattle.act_super.specs.Blocks.{edges_in}
+use Rattle.act_super.specs.Bounds.{edges_in}
 use Rattle.act_super.proofs.blocks.is_odd.Given as goal
 
 -- the edges so far and those to come have the parity of all

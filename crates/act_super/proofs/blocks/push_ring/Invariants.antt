@@ -1,6 +1,6 @@
 use Rattle.std.proofs.Common.{◌≡◌, ◌++◌, ◌∷◌, drop}
 use Rattle.act_geom.specs.Edges.{edges_to, ring_edges}
-use Rattle.act_super.specs.Blocks.{edges_in}
+use Rattle.act_super.specs.Bounds.{edges_in}
 use Rattle.act_super.proofs.blocks.push_ring.Given as goal
 
 -- the edges so far and those to come are those of the ring

@@ -1,7 +1,7 @@
 use Rattle.std.proofs.Common.{◌≡◌, drop}
 use Rattle.std.specs.List.{list_any}
 use Rattle.act_geom.specs.Touch.{touches_hull}
-use Rattle.act_super.specs.Blocks.{edges_in}
+use Rattle.act_super.specs.Bounds.{edges_in}
 use Rattle.act_super.proofs.blocks.touches.Given as goal
 
 -- no edge so far touches the hull

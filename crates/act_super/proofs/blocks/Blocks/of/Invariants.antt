@@ -1,6 +1,6 @@
 use Rattle.std.proofs.Common.{◌≡◌, ◌++◌, drop}
 use Rattle.act_geom.specs.Edges.{edges_of}
-use Rattle.act_super.specs.Blocks.{edges_in}
+use Rattle.act_super.specs.Bounds.{edges_in}
 use Rattle.act_super.proofs.blocks.Blocks.of.Given as goal
 
 -- the edges so far and those of the rings to come are those of the shape

@@ -1,6 +1,6 @@
 use Rattle.std.proofs.Common.{◌∙◌, sym, ap, arith, ◌<◌}
 use Rattle.act_geom.specs.Rings.{vertices_of}
-use Rattle.act_super.specs.Blocks.{class_by}
+use Rattle.act_super.specs.Bounds.{class_by}
 use Rattle.act_super.specs.Frames.{is_apart, is_around}
 use Rattle.act_super.proofs.AroundFacts.{around_mixed}
 use Rattle.act_super.proofs.FrameFacts.{frame_outside, class_is}

@@ -1,6 +1,6 @@
 use Rattle.std.proofs.Common.{All, take}
-use Rattle.act_super.specs.Blocks.{IsSideIn}
-use Rattle.act_super.proofs.blocks.frame_of.Given as goal
+use Rattle.act_super.specs.Bounds.{IsSideIn}
+use Rattle.act_super.proofs.bounds.frame_of.Given as goal
 
 -- the edges so far lie in the box
 abbrev pub invariant-loop-side : goal.invariant-loop-side

@@ -1,9 +1,9 @@
-use Rattle.std.proofs.Common.{arith, subst, take}
+use Rattle.std.proofs.Common.{arith, subst}
 use Rattle.std.proofs.lemmas.List.{take_all}
 use Rattle.std.specs.List.{All}
-use Rattle.act_super.specs.Blocks.{IsSideIn}
+use Rattle.act_super.specs.Bounds.{IsSideIn}
 use Rattle.act_super.proofs.BlockFacts.{sides_more}
-use Rattle.act_super.proofs.blocks.frame_of.Goals as goal
+use Rattle.act_super.proofs.bounds.frame_of.Goals as goal
 
 pub loop-side-preserved : goal.loop-side-preserved
 loop-side-preserved c =
