@@ -62,10 +62,13 @@ held_leaf settings zones keys standings trained p h =
     let shapes = ap (λ zs. map (λ (z : Zone). z.shape) zs) h.zones_are ∙ shapes_are keys (shapes_in standings) (length_shapes standings ∙ h.lengths) in
     same_within (standing_ground trained) (zone_ground settings trained) standings zones (λ c. same_asked settings trained zones standings c shapes h.levels) 28 root_cell p
 
--- all standings, put together of those up to the last one and none after it
-pub joined_all : (standings : List Standing) (n : ℕ) → n ≡ length standings → joined standings n [] n ≡ standings
-joined_all standings n e = ap (λ xs. xs ++ drop n standings) (append_nil (take n standings)) ∙ take-append-drop n standings
+-- all items, put together of those up to the last one and none after it
+pub all_again : {X : Type 0} (items : List X) (n : ℕ) → n ≡ length items → take n items ++ [] ++ drop n items ≡ items
+all_again items n e = ap (λ xs. xs ++ drop n items) (append_nil (take n items)) ∙ take-append-drop n items
   where
     append_nil : {X : Type 0} (xs : List X) → xs ++ [] ≡ xs
     append_nil [] = refl
     append_nil (x ∷ xs) = ap (λ r. x ∷ r) (append_nil xs)
+
+pub joined_all : (standings : List Standing) (n : ℕ) → n ≡ length standings → joined standings n [] n ≡ standings
+joined_all standings n e = all_again standings n e

@@ -31,6 +31,7 @@ pub mod CountFacts
 pub mod StepFacts
 pub mod GrownFacts
 pub mod NodeFacts
+pub mod ListingFacts
 pub mod SpanFacts
 pub mod OrderFacts
 pub mod ChoiceFacts

@@ -1,6 +1,7 @@
 -- The leaves and the child nodes of a node, by the items on its cells.
 use Rattle.std.proofs.Common.{◌≡◌, ℕ, zero, suc, ◌-◌, ◌<◌, ◌⊎◌, inl, inr, refl, sym, ap, ◌∙◌, arith, append_assoc, Bool, true, false, ◌&&◌, cond, List, [], ◌∷◌, ◌++◌, map}
 use Rattle.std.specs.Prelude.{nat_lt}
+use Rattle.std.proofs.lemmas.List.{map-append}
 use Rattle.act_grid.specs.declared.Settings.{Settings}
 use Rattle.act_grid.specs.Cell.{Address, IsCell, child_of}
 use Rattle.act_cover.proofs.Placed.{child_cell}
@@ -21,6 +22,10 @@ same_split g items others c e = sym (split_on g items c) ∙ ap (λ r. is_split 
 cases : (b : Bool) → (b ≡ true) ⊎ (b ≡ false)
 cases true = inl refl
 cases false = inr refl
+
+pub map_four : {X Y : Type 0} (f : X → Y) (a b d e : List X) → map f (a ++ b ++ d ++ e) ≡ map f a ++ map f b ++ map f d ++ map f e
+map_four f a b d e =
+    map-append f (a ++ b ++ d) e ∙ ap (λ x. x ++ map f e) (map-append f (a ++ b) d ∙ ap (λ x. x ++ map f d) (map-append f a b))
 
 module _ {X : Type 0} (g : Ground X) (down : GoesDown g) where
   same_below : (items others : List X) (c : Address) (q : ℕ) → IsCell c → c.level < 30 → q < 4 → on g items c ≡ on g others c → on g items (child_of c q) ≡ on g others (child_of c q)
@@ -61,6 +66,28 @@ module _ {X : Type 0} (g : Ground X) (down : GoesDown g) where
   pub narrow_splits : (k : ℕ) (items : List X) (c : Address) → IsCell c → splits_near g k (on g items c) c ≡ splits_near g k items c
   narrow_splits k items c cell = same_splits k (on g items c) items c cell (on_again g items c)
 
+  -- what the items on a cell decide of the leaves in it is the same of those on the cell alone
+  pub narrow_equal : {R : Type 0} (r : List X → Address → R) → ((items others : List X) (c : Address) → on g items c ≡ on g others c → r items c ≡ r others c)
+      → (k : ℕ) (items : List X) (c : Address) → IsCell c → map (r (on g items c)) (leaves_near g k items c) ≡ map (r items) (leaves_near g k items c)
+  unfolding leaves_near
+  narrow_equal r same k items c cell = equal k (on g items c) items c cell (on_again g items c)
+    where
+      equal : (k : ℕ) (some others : List X) (c : Address) → IsCell c → on g some c ≡ on g others c → map (r some) (leaves_near g k items c) ≡ map (r others) (leaves_near g k items c)
+      equal zero some others c cell e =
+          elim (cases (is_split g items c)) [
+            | inl s ↦ rw s refl
+            | inr s ↦ rw s (ap (λ x. x ∷ []) (same some others c e))
+          ]
+      equal (suc k) some others c cell e =
+          elim (cases (is_split g items c)) [
+            | inl s ↦
+                let low = split_low g items c s in
+                let sub : (q : ℕ) → q < 4 → map (r some) (leaves_near g k items (child_of c q)) ≡ map (r others) (leaves_near g k items (child_of c q)) =
+                λ q four. equal k some others (child_of c q) (child_cell c q cell (omega arith) four) (same_below some others c q cell (omega arith) four e) in
+                rw (s, map_four (r some) (leaves_near g k items (child_of c 0)) (leaves_near g k items (child_of c 1)) (leaves_near g k items (child_of c 2)) (leaves_near g k items (child_of c 3)), map_four (r others) (leaves_near g k items (child_of c 0)) (leaves_near g k items (child_of c 1)) (leaves_near g k items (child_of c 2)) (leaves_near g k items (child_of c 3)), sub 0 (omega arith), sub 1 (omega arith), sub 2 (omega arith), sub 3 (omega arith)) refl
+            | inr s ↦ rw s (ap (λ x. x ∷ []) (same some others c e))
+          ]
+
 pub leaf_alone : {X : Type 0} (g : Ground X) (k : ℕ) (items : List X) (c : Address) → is_split g items c ≡ false → leaves_near g k items c ≡ c ∷ []
 unfolding leaves_near
 leaf_alone g zero items c e = rw e refl
@@ -80,7 +107,7 @@ unfolding splits_near
 split_alone g k items c e z = ap (λ n. splits_near g n items c) z ∙ rw e refl
 
 -- four lists one after the other
-pub four_after : (before a b d e x1 x2 x3 x4 : List Address) → x1 ≡ before ++ a → x2 ≡ x1 ++ b → x3 ≡ x2 ++ d → x4 ≡ x3 ++ e → x4 ≡ before ++ (a ++ b ++ d ++ e)
+pub four_after : {X : Type 0} (before a b d e x1 x2 x3 x4 : List X) → x1 ≡ before ++ a → x2 ≡ x1 ++ b → x3 ≡ x2 ++ d → x4 ≡ x3 ++ e → x4 ≡ before ++ (a ++ b ++ d ++ e)
 four_after before a b d e x1 x2 x3 x4 p q r s =
     s ∙ ap (λ x. x ++ e) (r ∙ ap (λ x. x ++ d) (q ∙ ap (λ x. x ++ b) p))
     ∙ ap (λ x. (x ++ d) ++ e) (append_assoc before a b) ∙ ap (λ x. x ++ e) (append_assoc before (a ++ b) d) ∙ append_assoc before (a ++ b ++ d) e
@@ -102,12 +129,12 @@ module _ {X Y : Type 0} (g : Ground X) (h : Ground Y) (items : List X) (others :
   split_same : (c : Address) → is_split g items c ≡ is_split h others c
   split_same c = ap (λ b. nat_lt c.level 28 && b) (asked c)
 
-  leaves_same : (k : ℕ) (c : Address) → leaves_near g k items c ≡ leaves_near h k others c
+  pub leaves_same : (k : ℕ) (c : Address) → leaves_near g k items c ≡ leaves_near h k others c
   unfolding leaves_near
   leaves_same zero c = ap (λ b. cond b [] (c ∷ [])) (split_same c)
   leaves_same (suc k) c = rw (split_same c, leaves_same k (child_of c 0), leaves_same k (child_of c 1), leaves_same k (child_of c 2), leaves_same k (child_of c 3)) refl
 
-  splits_same : (k : ℕ) (c : Address) → splits_near g k items c ≡ splits_near h k others c
+  pub splits_same : (k : ℕ) (c : Address) → splits_near g k items c ≡ splits_near h k others c
   unfolding splits_near
   splits_same zero c = ap (λ b. cond b (c ∷ []) []) (split_same c)
   splits_same (suc k) c = rw (split_same c, splits_same k (child_of c 0), splits_same k (child_of c 1), splits_same k (child_of c 2), splits_same k (child_of c 3)) refl

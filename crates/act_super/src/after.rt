@@ -1,6 +1,6 @@
 //! The leaves of the state after a prepared change.
 
-ghost use Rattle.std.specs.Prelude.{◌≡◌, ◌+◌, ◌++◌, ◌≤◌, [], ◌∷◌, IfOk, None, true, false, drop, length, take};
+ghost use Rattle.std.specs.Prelude.{◌≡◌, ◌+◌, ◌++◌, ◌≤◌, [], ◌∷◌, IfOk, None, true, false, drop, length, map, take};
 ghost use Rattle.act_cover.specs.Level.{level_of};
 ghost use Rattle.act_super.specs.Grounds.{leaf_at, zone_ground};
 ghost use Rattle.act_super.specs.NodeParts.{leaves_near, splits_near};
@@ -49,12 +49,14 @@ impl Next {
         Ok(ZoneRefs::from_vec(refs))
     }
 
-    /// The leaves of a node of the state after the change, with the cells of its child nodes, in Z order.
+    /// The leaves of a node of the state after the change, with the cells of its child nodes, in Z order, and the
+    /// references of each leaf.
     pub fn node(&self, alloc: Global, state: &Super, cell: Cell) -> Result<Node, NoMemory>
         requires prepared { IsFor state.now.settings state.now.state self.now }
         requires level { cell.level ≤ 24 }
         ensures leaves { IfOk result (λ node. node.leaves ≡ node_leaves state.now.settings (after state.now.settings state.now.state self.now.entry) cell) }
         ensures children { IfOk result (λ node. node.children ≡ node_children state.now.settings (after state.now.settings state.now.state self.now.entry) cell) }
+        ensures refs { IfOk result (λ node. node.refs.items ≡ map (refs_of (changed state.now.state.zones self.now.entry)) node.leaves) }
     {
         let node = match &self.change {
             Change::Add(key, zone) => state.node_added(alloc, *key, zone, &self.marks, cell)?,
@@ -174,11 +176,22 @@ impl Super {
         requires deep { cell.level ≤ 24 }
         ensures leaves { IfOk result (λ node. node.leaves ≡ leaves_near (zone_ground self.now.settings marks.now) 4 (with_zone (record { key = key; shape = zone.now.shape }) self.now.state.zones) cell) }
         ensures children { IfOk result (λ node. node.children ≡ splits_near (zone_ground self.now.settings marks.now) 4 (with_zone (record { key = key; shape = zone.now.shape }) self.now.state.zones) cell) }
+        ensures refs { IfOk result (λ node. node.refs.items ≡ map (refs_of (with_zone (record { key = key; shape = zone.now.shape }) self.now.state.zones)) node.leaves) }
     {
         let Err(at) = place(&self.keys, key) else {
             unreachable!()
         };
-        node_in(alloc, &self.standings, at, Some(zone), at, marks, cell)
+        node_in(
+            alloc,
+            &self.keys,
+            &self.standings,
+            at,
+            key,
+            Some(zone),
+            at,
+            marks,
+            cell,
+        )
     }
 
     fn node_dropped(
@@ -192,11 +205,22 @@ impl Super {
         requires deep { cell.level ≤ 24 }
         ensures leaves { IfOk result (λ node. node.leaves ≡ leaves_near (zone_ground self.now.settings marks.now) 4 (without_key key self.now.state.zones) cell) }
         ensures children { IfOk result (λ node. node.children ≡ splits_near (zone_ground self.now.settings marks.now) 4 (without_key key self.now.state.zones) cell) }
+        ensures refs { IfOk result (λ node. node.refs.items ≡ map (refs_of (without_key key self.now.state.zones)) node.leaves) }
     {
         let Ok(at) = place(&self.keys, key) else {
             unreachable!()
         };
-        node_in(alloc, &self.standings, at, None, at + 1, marks, cell)
+        node_in(
+            alloc,
+            &self.keys,
+            &self.standings,
+            at,
+            key,
+            None,
+            at + 1,
+            marks,
+            cell,
+        )
     }
 
     fn node_reshaped(
@@ -212,11 +236,22 @@ impl Super {
         requires deep { cell.level ≤ 24 }
         ensures leaves { IfOk result (λ node. node.leaves ≡ leaves_near (zone_ground self.now.settings marks.now) 4 (reshaped key zone.now.shape self.now.state.zones) cell) }
         ensures children { IfOk result (λ node. node.children ≡ splits_near (zone_ground self.now.settings marks.now) 4 (reshaped key zone.now.shape self.now.state.zones) cell) }
+        ensures refs { IfOk result (λ node. node.refs.items ≡ map (refs_of (reshaped key zone.now.shape self.now.state.zones)) node.leaves) }
     {
         let Ok(at) = place(&self.keys, key) else {
             unreachable!()
         };
-        node_in(alloc, &self.standings, at, Some(zone), at + 1, marks, cell)
+        node_in(
+            alloc,
+            &self.keys,
+            &self.standings,
+            at,
+            key,
+            Some(zone),
+            at + 1,
+            marks,
+            cell,
+        )
     }
 
     pub(crate) fn node_trained(
@@ -228,9 +263,20 @@ impl Super {
         requires { cell.level ≤ 24 }
         ensures leaves { IfOk result (λ node. node.leaves ≡ leaves_near (zone_ground self.now.settings marks.now) 4 self.now.state.zones cell) }
         ensures children { IfOk result (λ node. node.children ≡ splits_near (zone_ground self.now.settings marks.now) 4 self.now.state.zones cell) }
+        ensures refs { IfOk result (λ node. node.refs.items ≡ map (refs_of self.now.state.zones) node.leaves) }
     {
         let last = self.standings.len();
-        node_in(alloc, &self.standings, last, None, last, marks, cell)
+        node_in(
+            alloc,
+            &self.keys,
+            &self.standings,
+            last,
+            0,
+            None,
+            last,
+            marks,
+            cell,
+        )
     }
 }
 

@@ -34,6 +34,7 @@ mod gather;
 mod grow;
 mod laws;
 mod leaf;
+mod listed;
 mod lists;
 mod lost;
 mod marks;

@@ -63,7 +63,7 @@ fn unfed(shape: Shape) -> TurnedAdd
 }
 
 impl Super {
-    ghost use Rattle.std.specs.Prelude.{◌≡◌, ◌⊎◌, ◌<◌, ◌≤◌, ◌++◌, IfOk, IfErr, Some, drop, length, slice_index_or, slice_get};
+    ghost use Rattle.std.specs.Prelude.{◌≡◌, ◌⊎◌, ◌<◌, ◌≤◌, ◌++◌, IfOk, IfErr, Some, drop, length, map, slice_index_or, slice_get};
     ghost use Rattle.act_cover.specs.Covering.{class_at};
     ghost use Rattle.act_cover.specs.Level.{level_of};
     ghost use Rattle.act_geom.specs.Inside.{is_inside};
@@ -400,12 +400,14 @@ impl Super {
         Ok(ZoneRefs::from_vec(refs))
     }
 
-    /// The leaves of a node with the cells of its child nodes, in Z order. A node belongs to each reached split cell of
-    /// level 0, 4, .., 24, and to the root. It looks at all zones once, and then at those on each cell of the node.
+    /// The leaves of a node with the cells of its child nodes, in Z order, and the references of each leaf. A node belongs
+    /// to each reached split cell of level 0, 4, .., 24, and to the root. It looks at all zones once, and then at those on
+    /// each cell of the node.
     pub fn node(&self, alloc: Global, cell: Cell) -> Result<Node, NoMemory>
         requires { cell.level ≤ 24 }
         ensures leaves { IfOk result (λ node. node.leaves ≡ node_leaves self.now.settings self.now.state cell) }
         ensures children { IfOk result (λ node. node.children ≡ node_children self.now.settings self.now.state cell) }
+        ensures refs { IfOk result (λ node. node.refs.items ≡ map (refs_of self.now.state.zones) node.leaves) }
     {
         let node = self.node_trained(alloc, &self.marks, cell)?;
         Ok(node)

@@ -170,6 +170,7 @@ fn leaves_have_references(rt: HostRuntime) -> Result<(), Fail> {
         (node.leaves.as_slice().len(), node.children.as_slice().len()),
         (12, 1)
     );
+    assert_eq!(rt; node.refs.len(), 12);
     let far = state.leaf(Point { x: -1, y: -1 });
     assert!(rt; state.refs(alloc, far)?.as_slice().is_empty());
     let Ok(next) = state.prepare_drop(alloc, 7) else {

@@ -1,86 +1,118 @@
-use Rattle.std.proofs.Common.{rules, ◌≡◌, ◌<◌, arith, sym, ◌∙◌, ap, ◌++◌, append-nil}
+use Rattle.std.proofs.Common.{rules, ◌≡◌, ◌<◌, arith, sym, ◌∙◌, ap, ◌++◌, append-nil, map, ◌∷◌, []}
 use Rattle.act_grid.specs.Cell.{IsCell}
 use Rattle.act_cover.proofs.Placed.{child_cell}
 use Rattle.act_super.specs.Grounds.{is_split, on}
 use Rattle.act_super.specs.NodeParts.{leaves_near, splits_near}
-use Rattle.act_super.specs.Standings.{standing_ground, values}
-use Rattle.act_super.proofs.NodeFacts.{four_after, leaf_alone, leaves_four, narrow_leaves, narrow_splits, no_leaf, no_split, split_alone, splits_four}
-use Rattle.act_super.proofs.StandingFacts.{standings_go_down}
+use Rattle.act_super.specs.Listings.{listed_ground, refs_here}
+use Rattle.act_super.proofs.NodeFacts.{four_after, leaf_alone, map_four, leaves_four, narrow_leaves, narrow_splits, no_leaf, no_split, split_alone, splits_four}
+use Rattle.act_super.proofs.ListingFacts.{listed_go_down, narrow_refs}
 use Rattle.act_super.proofs.TreeFacts.{split_on}
 use Rattle.act_super.proofs.UnderFacts.{split_low}
 use Rattle.act_super.proofs.node.+near.Goals as goal
 
 pub near-returns-then-not-split-clause-leaves : goal.near-returns-then-not-split-clause-leaves
-near-returns-then-not-split-clause-leaves t c = c.in_ok-push.ensures.items ∙ ap (λ r. c.args.leaves.now.items ++ r) (sym (leaf_alone (standing_ground c.args.marks.now) c.args.k (values c.args.zones.now) c.args.cell (sym c.requires.split ∙ c.if-not-split.true)))
+near-returns-then-not-split-clause-leaves t c = c.in_ok-push.ensures.items ∙ ap (λ r. c.args.leaves.now.items ++ r) (sym (leaf_alone (listed_ground c.args.marks.now) c.args.k c.args.zones.now c.args.cell (sym c.requires.split ∙ c.if-not-split.true)))
 
 pub near-returns-then-not-split-clause-children : goal.near-returns-then-not-split-clause-children
-near-returns-then-not-split-clause-children t c = sym (ap (λ r. c.args.children.now.items ++ r) (no_split (standing_ground c.args.marks.now) c.args.k (values c.args.zones.now) c.args.cell (sym c.requires.split ∙ c.if-not-split.true)) ∙ append-nil c.args.children.now.items)
+near-returns-then-not-split-clause-children t c = sym (ap (λ r. c.args.children.now.items ++ r) (no_split (listed_ground c.args.marks.now) c.args.k c.args.zones.now c.args.cell (sym c.requires.split ∙ c.if-not-split.true)) ∙ append-nil c.args.children.now.items)
+
+pub near-returns-then-not-split-clause-refs : goal.near-returns-then-not-split-clause-refs
+near-returns-then-not-split-clause-refs t c =
+    c.in_ok-push-2.ensures.items ∙ ap (λ r. c.args.refs.now.items ++ r)
+    (ap (λ r. r ∷ []) c.in_ok-refs_at.ensures ∙ sym (ap (map (refs_here c.args.zones.now)) (leaf_alone (listed_ground c.args.marks.now) c.args.k c.args.zones.now c.args.cell (sym c.requires.split ∙ c.if-not-split.true))))
+
+pub near-returns-then-k-eq0-clause-refs : goal.near-returns-then-k-eq0-clause-refs
+near-returns-then-k-eq0-clause-refs t c =
+    sym (
+    ap (λ r. c.args.refs.now.items ++ map (refs_here c.args.zones.now) r) (no_leaf (listed_ground c.args.marks.now) c.args.k c.args.zones.now c.args.cell (sym c.requires.split ∙ c.if-not-split.false) c.if-k-eq0.true)
+    ∙ append-nil c.args.refs.now.items
+    )
+
+pub near-returns-clause-refs : goal.near-returns-clause-refs
+near-returns-clause-refs t c =
+    let some : 0 < c.args.k = omega (arith, c.if-k-eq0.false) in
+    four_after c.args.refs.now.items _ _ _ _ c.near_below.new.refs.items c.near_below-2.new.refs.items c.near_below-3.new.refs.items c.near_below-4.new.refs.items
+    c.in_ok-near_below.ensures.refs c.in_ok-near_below-2.ensures.refs c.in_ok-near_below-3.ensures.refs c.in_ok-near_below-4.ensures.refs
+    ∙ ap (λ r. c.args.refs.now.items ++ r)
+    (sym (ap (map (refs_here c.args.zones.now)) (leaves_four (listed_ground c.args.marks.now) c.args.k c.args.zones.now c.args.cell (sym c.requires.split ∙ c.if-not-split.false) some) ∙ map_four (refs_here c.args.zones.now) _ _ _ _))
 
 pub near-returns-then-k-eq0-clause-leaves : goal.near-returns-then-k-eq0-clause-leaves
-near-returns-then-k-eq0-clause-leaves t c = sym (ap (λ r. c.args.leaves.now.items ++ r) (no_leaf (standing_ground c.args.marks.now) c.args.k (values c.args.zones.now) c.args.cell (sym c.requires.split ∙ c.if-not-split.false) c.if-k-eq0.true) ∙ append-nil c.args.leaves.now.items)
+near-returns-then-k-eq0-clause-leaves t c = sym (ap (λ r. c.args.leaves.now.items ++ r) (no_leaf (listed_ground c.args.marks.now) c.args.k c.args.zones.now c.args.cell (sym c.requires.split ∙ c.if-not-split.false) c.if-k-eq0.true) ∙ append-nil c.args.leaves.now.items)
 
 pub near-returns-then-k-eq0-clause-children : goal.near-returns-then-k-eq0-clause-children
-near-returns-then-k-eq0-clause-children t c = c.in_ok-push-2.ensures.items ∙ ap (λ r. c.args.children.now.items ++ r) (sym (split_alone (standing_ground c.args.marks.now) c.args.k (values c.args.zones.now) c.args.cell (sym c.requires.split ∙ c.if-not-split.false) c.if-k-eq0.true))
+near-returns-then-k-eq0-clause-children t c = c.in_ok-push-3.ensures.items ∙ ap (λ r. c.args.children.now.items ++ r) (sym (split_alone (listed_ground c.args.marks.now) c.args.k c.args.zones.now c.args.cell (sym c.requires.split ∙ c.if-not-split.false) c.if-k-eq0.true))
 
 pub near-returns-clause-leaves : goal.near-returns-clause-leaves
 near-returns-clause-leaves t c =
     let some : 0 < c.args.k = omega (arith, c.if-k-eq0.false) in
     four_after c.args.leaves.now.items _ _ _ _ c.near_below.new.leaves.items c.near_below-2.new.leaves.items c.near_below-3.new.leaves.items c.near_below-4.new.leaves.items
     c.in_ok-near_below.ensures.leaves c.in_ok-near_below-2.ensures.leaves c.in_ok-near_below-3.ensures.leaves c.in_ok-near_below-4.ensures.leaves
-    ∙ ap (λ r. c.args.leaves.now.items ++ r) (sym (leaves_four (standing_ground c.args.marks.now) c.args.k (values c.args.zones.now) c.args.cell (sym c.requires.split ∙ c.if-not-split.false) some))
+    ∙ ap (λ r. c.args.leaves.now.items ++ r) (sym (leaves_four (listed_ground c.args.marks.now) c.args.k c.args.zones.now c.args.cell (sym c.requires.split ∙ c.if-not-split.false) some))
 
 pub near-returns-clause-children : goal.near-returns-clause-children
 near-returns-clause-children t c =
     let some : 0 < c.args.k = omega (arith, c.if-k-eq0.false) in
     four_after c.args.children.now.items _ _ _ _ c.near_below.new.children.items c.near_below-2.new.children.items c.near_below-3.new.children.items c.near_below-4.new.children.items
     c.in_ok-near_below.ensures.children c.in_ok-near_below-2.ensures.children c.in_ok-near_below-3.ensures.children c.in_ok-near_below-4.ensures.children
-    ∙ ap (λ r. c.args.children.now.items ++ r) (sym (splits_four (standing_ground c.args.marks.now) c.args.k (values c.args.zones.now) c.args.cell (sym c.requires.split ∙ c.if-not-split.false) some))
+    ∙ ap (λ r. c.args.children.now.items ++ r) (sym (splits_four (listed_ground c.args.marks.now) c.args.k c.args.zones.now c.args.cell (sym c.requires.split ∙ c.if-not-split.false) some))
 
 pub near-near_below-requires : goal.near-near_below-requires
 near-near_below-requires t c =
-    let low : c.args.cell.level < 28 = split_low (standing_ground c.args.marks.now) (values c.args.zones.now) c.args.cell (sym c.requires.split ∙ c.if-not-split.false) in
+    let low : c.args.cell.level < 28 = split_low (listed_ground c.args.marks.now) c.args.zones.now c.args.cell (sym c.requires.split ∙ c.if-not-split.false) in
     let some : 0 < c.args.k = omega (arith, c.if-k-eq0.false) in
     search rules
 
 pub near-near_below-requires-2 : goal.near-near_below-requires-2
 near-near_below-requires-2 t c =
-    let low : c.args.cell.level < 28 = split_low (standing_ground c.args.marks.now) (values c.args.zones.now) c.args.cell (sym c.requires.split ∙ c.if-not-split.false) in
+    let low : c.args.cell.level < 28 = split_low (listed_ground c.args.marks.now) c.args.zones.now c.args.cell (sym c.requires.split ∙ c.if-not-split.false) in
     let some : 0 < c.args.k = omega (arith, c.if-k-eq0.false) in
     search rules
 
 pub near-near_below-requires-3 : goal.near-near_below-requires-3
 near-near_below-requires-3 t c =
-    let low : c.args.cell.level < 28 = split_low (standing_ground c.args.marks.now) (values c.args.zones.now) c.args.cell (sym c.requires.split ∙ c.if-not-split.false) in
+    let low : c.args.cell.level < 28 = split_low (listed_ground c.args.marks.now) c.args.zones.now c.args.cell (sym c.requires.split ∙ c.if-not-split.false) in
     let some : 0 < c.args.k = omega (arith, c.if-k-eq0.false) in
     search rules
 
 pub near-near_below-requires-4 : goal.near-near_below-requires-4
 near-near_below-requires-4 t c =
-    let low : c.args.cell.level < 28 = split_low (standing_ground c.args.marks.now) (values c.args.zones.now) c.args.cell (sym c.requires.split ∙ c.if-not-split.false) in
+    let low : c.args.cell.level < 28 = split_low (listed_ground c.args.marks.now) c.args.zones.now c.args.cell (sym c.requires.split ∙ c.if-not-split.false) in
     let some : 0 < c.args.k = omega (arith, c.if-k-eq0.false) in
     search rules
 
 pub near_below-near-requires : goal.near_below-near-requires
 near_below-near-requires t c =
-    let g = (standing_ground c.args.marks.now) in
+    let g = (listed_ground c.args.marks.now) in
     let cell : IsCell c.child-below.result = rw c.child-below.ensures (child_cell c.args.cell c.args.q c.requires.cell (omega (arith, c.requires.level)) c.requires.quarter) in
-    let items : values c.as_slice.result.now ≡ on g (values c.args.zones.now) c.child-below.result = ap values c.as_slice.ensures.value ∙ c.in_ok-there.ensures.zones in
-    let split : c.in_ok-there.there.split ≡ is_split g (values c.as_slice.result.now) c.child-below.result =
-    c.in_ok-there.ensures.split ∙ sym (ap (λ r. is_split g r c.child-below.result) items ∙ split_on g (values c.args.zones.now) c.child-below.result) in
+    let items : c.as_slice.result.now ≡ on g c.args.zones.now c.child-below.result = c.as_slice.ensures.value ∙ c.in_ok-there.ensures.zones in
+    let split : c.in_ok-there.there.split ≡ is_split g c.as_slice.result.now c.child-below.result =
+    c.in_ok-there.ensures.split ∙ sym (ap (λ r. is_split g r c.child-below.result) items ∙ split_on g c.args.zones.now c.child-below.result) in
     search rules
 
 pub near_below-returns-clause-leaves : goal.near_below-returns-clause-leaves
 near_below-returns-clause-leaves t c =
-    let g = (standing_ground c.args.marks.now) in
+    let g = (listed_ground c.args.marks.now) in
     let cell : IsCell c.child-below.result = rw c.child-below.ensures (child_cell c.args.cell c.args.q c.requires.cell (omega (arith, c.requires.level)) c.requires.quarter) in
-    let items : values c.as_slice.result.now ≡ on g (values c.args.zones.now) c.child-below.result = ap values c.as_slice.ensures.value ∙ c.in_ok-there.ensures.zones in
-    let same = ap (λ r. leaves_near g c.args.k r c.child-below.result) items ∙ narrow_leaves g (standings_go_down c.args.marks.now) c.args.k (values c.args.zones.now) c.child-below.result cell ∙ ap (leaves_near g c.args.k (values c.args.zones.now)) c.child-below.ensures in
+    let items : c.as_slice.result.now ≡ on g c.args.zones.now c.child-below.result = c.as_slice.ensures.value ∙ c.in_ok-there.ensures.zones in
+    let same = ap (λ r. leaves_near g c.args.k r c.child-below.result) items ∙ narrow_leaves g (listed_go_down c.args.marks.now) c.args.k c.args.zones.now c.child-below.result cell ∙ ap (leaves_near g c.args.k c.args.zones.now) c.child-below.ensures in
     c.in_ok-near.ensures.leaves ∙ ap (λ r. c.args.leaves.now.items ++ r) same
 
 pub near_below-returns-clause-children : goal.near_below-returns-clause-children
 near_below-returns-clause-children t c =
-    let g = (standing_ground c.args.marks.now) in
+    let g = (listed_ground c.args.marks.now) in
     let cell : IsCell c.child-below.result = rw c.child-below.ensures (child_cell c.args.cell c.args.q c.requires.cell (omega (arith, c.requires.level)) c.requires.quarter) in
-    let items : values c.as_slice.result.now ≡ on g (values c.args.zones.now) c.child-below.result = ap values c.as_slice.ensures.value ∙ c.in_ok-there.ensures.zones in
-    let same = ap (λ r. splits_near g c.args.k r c.child-below.result) items ∙ narrow_splits g (standings_go_down c.args.marks.now) c.args.k (values c.args.zones.now) c.child-below.result cell ∙ ap (splits_near g c.args.k (values c.args.zones.now)) c.child-below.ensures in
+    let items : c.as_slice.result.now ≡ on g c.args.zones.now c.child-below.result = c.as_slice.ensures.value ∙ c.in_ok-there.ensures.zones in
+    let same = ap (λ r. splits_near g c.args.k r c.child-below.result) items ∙ narrow_splits g (listed_go_down c.args.marks.now) c.args.k c.args.zones.now c.child-below.result cell ∙ ap (splits_near g c.args.k c.args.zones.now) c.child-below.ensures in
     c.in_ok-near.ensures.children ∙ ap (λ r. c.args.children.now.items ++ r) same
+
+pub near_below-returns-clause-refs : goal.near_below-returns-clause-refs
+near_below-returns-clause-refs t c =
+    let g = (listed_ground c.args.marks.now) in
+    let cell : IsCell c.child-below.result = rw c.child-below.ensures (child_cell c.args.cell c.args.q c.requires.cell (omega (arith, c.requires.level)) c.requires.quarter) in
+    let items : c.as_slice.result.now ≡ on g c.args.zones.now c.child-below.result = c.as_slice.ensures.value ∙ c.in_ok-there.ensures.zones in
+    let same =
+    ap (λ r. map (refs_here r) (leaves_near g c.args.k r c.child-below.result)) items
+    ∙ ap (map (refs_here (on g c.args.zones.now c.child-below.result))) (narrow_leaves g (listed_go_down c.args.marks.now) c.args.k c.args.zones.now c.child-below.result cell)
+    ∙ narrow_refs c.args.marks.now c.args.k c.args.zones.now c.child-below.result cell
+    ∙ ap (λ b. map (refs_here c.args.zones.now) (leaves_near g c.args.k c.args.zones.now b)) c.child-below.ensures in
+    c.in_ok-near.ensures.refs ∙ ap (λ r. c.args.refs.now.items ++ r) same
