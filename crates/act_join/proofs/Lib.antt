@@ -5,6 +5,7 @@ pub mod FoundFacts
 pub mod AnsweredFacts
 pub mod MergeFacts
 pub mod SolveFacts
+pub mod WorkerFacts
 pub mod SolvedFacts
 pub mod PutFacts
 pub mod PairFacts

@@ -3,6 +3,7 @@ pub mod Held
 pub mod Kept
 pub mod Solved
 pub mod Working
+pub mod Workers
 pub mod Merging
 pub mod Puts
 pub mod Ends

@@ -1,8 +1,8 @@
 //! Answers to batches.
 
-ghost use Rattle.std.specs.Prelude.{◌≡◌, IfOk, OnOk};
+ghost use Rattle.std.specs.Prelude.{◌≡◌, IfOk};
 ghost use Rattle.act_rows.specs.History.{Begins, History};
-ghost use Rattle.act_join.specs.Working.{AreFound, IsFound};
+ghost use Rattle.act_join.specs.Working.{IsFound};
 
 use act_base::Steps;
 use act_grid::NoMemory;
@@ -32,25 +32,4 @@ pub(crate) fn answer_one<G: Gate, L: Ledger>(
         return Err(NoMemory);
     }
     reader.join(alloc, points, batch.layers, gate, steps)
-}
-
-/// Answers batches in their order.
-pub(crate) fn answer_all<G: Gate, L: Ledger>(
-    alloc: Global,
-    reader: &mut Reader,
-    batches: &[Batch],
-    gate: &G,
-    steps: &mut Steps<L>,
-) -> Result<Vec<Answer>, NoMemory>
-    ensures found { IfOk result (λ answers. (before : History) → Begins before reader.old.ticket.seen → AreFound before reader.new.ticket.seen batches.now answers.items) }
-    ensures table { reader.new.table ≡ reader.old.table }
-{
-    let mut answers = Vec::new(alloc);
-    for batch in batches {
-        match answer_one(alloc, reader, batch, gate, steps) {
-            Ok(answer) => answers.push(answer)?,
-            Err(NoMemory) => return Err(NoMemory),
-        }
-    }
-    Ok(answers)
 }

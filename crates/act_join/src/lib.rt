@@ -3,8 +3,8 @@
 //! The script is read in pieces. Each piece goes through the cutter, the lines and the segmenter of
 //! `act_script`, and a segment is run as soon as a line closes it, before the next piece is read.
 //!
-//! A run has an index. Its one writer decides the updates of a segment in the order of the script, and a
-//! reader, which is lent for the segment, answers the batches, each over the zones of one version. A batch's
+//! A run has an index. Its one writer decides the updates of a segment in the order of the script, while workers,
+//! each with a reader of its own, draw the batches and answer them, each over the zones of one version. A batch's
 //! count is the number of updates at that version. A training splits cells that are costly for the points of
 //! earlier segments; the answers stay. `Run::solve` gives the replies as values, and `Run::segment` writes them
 //! too: text gathers in one buffer, which is written at the end of a line once it has 64 KiB, and at the end of
@@ -27,11 +27,15 @@ mod put;
 mod reply;
 mod run;
 mod solve;
+mod team;
 #[cfg(test)]
 mod tests;
+#[cfg(test)]
+mod thread_tests;
 mod told;
 mod updating;
 mod words;
+mod worker;
 
 pub use driver::engine;
 pub use ended::{Ended, ScriptFault};

@@ -57,6 +57,7 @@ impl Run {
         Ok(Run {
             updating: Updating {
                 writer,
+                settings,
                 points: Vec::new(alloc),
                 waiting: VecDeque::new(alloc),
                 decided: VecDeque::new(alloc),
@@ -68,8 +69,9 @@ impl Run {
     }
 
     // The steps are counted under the name that the caller picks.
-    fn solve_as<G: Gate, L: Ledger>(
+    fn solve_as<T: Threads + Sync, G: Gate, L: Ledger + Send>(
         &mut self,
+        rt: &T,
         steps: Vec<Step>,
         gate: &G,
         blank: Blank,
@@ -79,7 +81,8 @@ impl Run {
         ensures solves { IfOk result (λ solved. Solves self.old.held (turns_of self.old.points steps.items) solved) }
         ensures kept { OnOk result (self.new ≡ after_segment self.old steps.items) }
     {
-        self.updating.solve::<G, L>(self.alloc, steps, gate, blank)
+        self.updating
+            .solve::<T, G, L>(rt, self.alloc, steps, gate, blank)
     }
 
     /// Does the steps of a segment, and gives the replies to them in the order of the script.
@@ -92,7 +95,7 @@ impl Run {
     /// `rt` is for workers.
     pub fn solve<T: Threads + Sync, G: Gate>(
         &mut self,
-        _rt: &T,
+        rt: &T,
         segment: Segment,
         gate: &G,
     ) -> Result<Solved, NoMemory>
@@ -104,7 +107,7 @@ impl Run {
         // The updates were decided in their order, and the points of the batches are there for later samples.
         ensures kept { OnOk result (self.new ≡ after_segment self.old segment) }
     {
-        self.solve_as::<G, Brand>(segment.into_vec(), gate, Blank::new(1))
+        self.solve_as::<T, G, Brand>(rt, segment.into_vec(), gate, Blank::new(1))
     }
 
     // The replies are written.

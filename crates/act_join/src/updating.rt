@@ -13,7 +13,7 @@ ghost use Rattle.act_join.specs.Working.{IsAlong, Steps as StepsOf, counted};
 
 use crate::decide::{Decided, Stepped, decide};
 use act_base::Steps;
-use act_grid::{NoMemory, Point};
+use act_grid::{NoMemory, Point, Settings};
 use act_index::Writer;
 use act_io::Gate;
 use act_script::Update;
@@ -26,6 +26,7 @@ use std::sync::ledger::Ledger;
 #[derive(Drop)]
 pub(crate) struct Updating {
     pub(crate) writer: Writer,
+    pub(crate) settings: Settings,
     pub(crate) points: Vec<Point>,
     // The updates that are not decided yet, and the answers to the others.
     pub(crate) waiting: VecDeque<Update>,
