@@ -14,7 +14,7 @@ use Rattle.clap.specs.Faults.{defaults_fault, fault_of, settle_fault, walk_fault
 use Rattle.clap.specs.Simple.{built, matches_of}
 use Rattle.clap.specs.Walk.{Row, Text, first_of, has_row, nothing_held, settled, walked, with_default}
 use Rattle.clap.proofs.FaultLemmas.{leaf_fault}
-use Rattle.act_words.specs.Words.{Given, Word, fits_given, given_by, given_option, is_among, is_apart, is_number, is_seen, number_in, fits_options, option_names, set_to, value_of, Wanted, wanted_by, wanted_given}
+use Rattle.act_words.specs.Words.{Given, Word, fits_demo_given, fits_demo_options, fits_given, given_by, given_option, is_among, is_apart, is_number, is_seen, number_in, fits_options, option_names, set_to, value_of, Wanted, wanted_by, wanted_given}
 use Rattle.act_words.specs.Clap.{clap_faults, clap_value, has_dashes, join_app}
 use Rattle.clap.specs.Words.{App, HasKind, HasMatchesOf, IsAmong, first_value, found_of, is_simple, kind_of}
 use Rattle.clap.specs.Faults.{is_simple_and_free}
@@ -298,3 +298,45 @@ pub fit_by : (words : List Word) (d r c w : Option Word) → has_dashes words �
 fit_by words d r c w nd free hd hr hc hw = rw (hd, hr, hc, hw) (sym (taken_fit words nd free))
 
 pub ruleset fit_or_not = (faulty_unfit)
+
+-- ---- the demo
+
+-- what doesn't fit `join` doesn't fit the demo
+pub demo_unfit : (words : List Word) → fits_options words ≡ None → fits_demo_options words ≡ None
+demo_unfit words h = by (given_by option_names words None) h
+  where
+    one : (o : Option Word) (fit : Option Wanted) → fit ≡ None → option_map_or (λ digits. None) o fit ≡ None
+    one None fit e = e
+    one (Some digits) fit e = refl
+
+    by : (o : Option Given) → option_and_then fits_given o ≡ None → option_and_then fits_demo_given o ≡ None
+    by None e = refl
+    by (Some given) e = one (value_of (codes "digits") given) (fits_given given) e
+
+pub faulty_demo_unfit : (words : List Word) → Faulty (clap_faults words) → fits_demo_options words ≡ None
+faulty_demo_unfit words faulty = demo_unfit words (faulty_unfit words faulty)
+
+-- where clap finds no fault, the options of a demo fit as the values that it holds say
+pub demo_taken_fit : (words : List Word) → has_dashes words ≡ false → clap_faults words ≡ []
+    → fits_demo_options words ≡ option_map_or (λ digits. None) (clap_value (codes "digits") words)
+    (wanted_by (clap_value (codes "digits") words) (clap_value (codes "rows") words) (clap_value (codes "cells") words) (clap_value (codes "workers") words))
+unfolding clap_faults clap_value
+demo_taken_fit words nd q =
+    let g = gives words option_names [] (behind None) tt (none_dashes words nd) (sym (fault_is words) ∙ q) in
+    same g.given g.reads g.apart (matches_are words ∙ g.rows_are)
+  where
+    held : Word → Option Word
+    held name = first_of name (matches_of join_app words)
+
+    same : (given : Given) → given_by option_names words None ≡ Some given → is_apart [] given ≡ true → matches_of join_app words ≡ rows given
+        → fits_demo_options words ≡ option_map_or (λ digits. None) (held (codes "digits")) (wanted_by (held (codes "digits")) (held (codes "rows")) (held (codes "cells")) (held (codes "workers")))
+    same given e a r =
+        let is : (name : Word) → held name ≡ value_of name given = λ name. ap (first_of name) r ∙ first_is name given in
+        rw (e, a, is (codes "digits"), is (codes "rows"), is (codes "cells"), is (codes "workers")) refl
+
+pub demo_fit_by : (words : List Word) (d r c w : Option Word) → has_dashes words ≡ false → clap_faults words ≡ []
+    → d ≡ clap_value (codes "digits") words → r ≡ clap_value (codes "rows") words → c ≡ clap_value (codes "cells") words → w ≡ clap_value (codes "workers") words
+    → option_map_or (λ digits. None) d (wanted_by d r c w) ≡ fits_demo_options words
+demo_fit_by words d r c w nd free hd hr hc hw = rw (hd, hr, hc, hw) (sym (demo_taken_fit words nd free))
+
+pub ruleset demo_fit_or_not = (faulty_demo_unfit)

@@ -1,5 +1,5 @@
 -- Which words of a command line fit, and what they say.
-use Rattle.std.specs.Prelude.{◌&&◌, ℕ, Bool, true, not, List, [], ◌∷◌, ◌++◌, Option, Some, None, option_map, option_and_then, if◌then◌else◌, codes, find, length, nat_le}
+use Rattle.std.specs.Prelude.{◌&&◌, ◌≤◌, ℕ, Bool, true, false, not, List, [], ◌∷◌, ◌++◌, Option, Some, None, option_map, option_and_then, if◌then◌else◌, codes, find, length, nat_le}
 use Rattle.std.specs.List.{list_all, list_any}
 use Rattle.std.specs.Option.{option_map_or}
 use Rattle.std.specs.Char.{is_ascii_digit}
@@ -7,6 +7,10 @@ use Rattle.std.specs.Str.{bytes_eq}
 use Rattle.std.specs.Str.Parse.{digits_value}
 use Rattle.clap.specs.Lexer.{long_of}
 use Rattle.act_grid.specs.declared.settings.Settings.{Settings}
+use Rattle.act_words.specs.declared.kind.WordKind.{WordKind}
+use Rattle.act_words.specs.declared.words.Asked.{Asked}
+use Rattle.act_words.specs.declared.words.Asked.TheVariants as asked
+use Rattle.act_words.specs.declared.kind.WordKind.TheVariants as kind
 
 abbrev pub Word : Type 0
 Word = List ℕ
@@ -91,7 +95,68 @@ fits_given given = if is_apart [] given then wanted_given given else None
 abbrev pub fits_options : List Word → Option Wanted
 fits_options words = option_and_then fits_given (given_by option_names words None)
 
+-- ---- the demo
+
+-- a word that stands where an option may begin: one that begins none, `--name`, or `--name=value`
+abbrev pub kind_of_long : Option (Word × Option Word) → WordKind
+kind_of_long None = kind.Plain
+kind_of_long (Some (name, None)) = kind.Name
+kind_of_long (Some (name, Some attached)) = kind.Whole
+
+abbrev pub kind_of : Word → WordKind
+kind_of word = kind_of_long (long_of word)
+
+-- one of three, by the kind
+abbrev pub with_kind : {X : Type 0} → WordKind → X → X → X → X
+with_kind kind.Plain plain name whole = plain
+with_kind kind.Name plain name whole = name
+with_kind kind.Whole plain name whole = whole
+
+-- the words that belong to options, where the first one may be the value of an option that waits
+abbrev pub option_words : Bool → List Word → List Word
+option_words waits [] = []
+option_words true (word ∷ words) = word ∷ option_words false words
+option_words false (word ∷ words) = with_kind (kind_of word) (option_words false words) (word ∷ option_words true words) (word ∷ option_words false words)
+
+-- the others
+abbrev pub plain_words : Bool → List Word → List Word
+plain_words waits [] = []
+plain_words true (word ∷ words) = plain_words false words
+plain_words false (word ∷ words) = with_kind (kind_of word) (word ∷ plain_words false words) (plain_words true words) (plain_words false words)
+
+-- what a command line asks for
+pub data Asks : Type 0 where
+  Joins : Wanted → Asks
+  Shows : ℕ → Wanted → Asks
+
+-- the number that the only one of these words says
+abbrev pub only_number : List Word → Option ℕ
+only_number [] = None
+only_number (word ∷ []) = number_in 1 16 word
+only_number (word ∷ other ∷ words) = None
+
+-- options of the demo: those of `join` but the digits
+abbrev pub fits_demo_given : Given → Option Wanted
+fits_demo_given given = option_map_or (λ digits. None) (value_of (codes "digits") given) (fits_given given)
+
+abbrev pub fits_demo_options : List Word → Option Wanted
+fits_demo_options words = option_and_then fits_demo_given (given_by option_names words None)
+
+-- what the words after `demo` ask for, where they fit: one is a number from 1 to 16, and the others are options
+abbrev pub fits_demo : List Word → Option Asks
+fits_demo words = option_and_then (λ n. option_map (Shows n) (fits_demo_options (option_words false words))) (only_number (plain_words false words))
+
+abbrev pub asks_of : Asked → Asks
+asks_of (asked.Join s) = Joins (wanted_of s)
+asks_of (asked.Demo n s) = Shows n (wanted_of s)
+
+-- the number of a demo is from 1 to 16
+abbrev pub HasSides : Asked → Type 0
+HasSides (asked.Join s) = Unit {0}
+HasSides (asked.Demo n s) = (1 ≤ n) × (n ≤ 16)
+
 -- what the words of a command line ask for, where they fit
-abbrev pub fits : List Word → Option Wanted
+abbrev pub fits : List Word → Option Asks
 fits [] = None
-fits (command ∷ words) = if bytes_eq command (codes "join") then fits_options words else None
+fits (command ∷ words) =
+    if bytes_eq command (codes "join") then option_map Joins (fits_options words) else if bytes_eq command (codes "demo") then fits_demo words else None

@@ -1,4 +1,4 @@
-//! The words of the command line of `join`, on `clap`.
+//! The words of the command lines of `join` and `demo`, on `clap`.
 //!
 //! `clap` reads the words after the command, each option with its value as a text; the values are
 //! then checked here as numbers within the limits of [`Settings`](act_grid::Settings). The
@@ -11,12 +11,15 @@
 //!
 //! ```text
 //! match parse_words(alloc, words)? {
-//!     Some(settings) => join(settings),
+//!     Some(Asked::Join(settings)) => join(settings),
+//!     Some(Asked::Demo(count, settings)) => demo(count, settings),
 //!     None => usage(),
 //! }
 //! ```
 #![tactic(auto)]
 
+mod demo;
+mod kind;
 mod law;
 mod number;
 mod options;
@@ -25,4 +28,4 @@ mod tests;
 mod words;
 
 pub use law::reads_what_is_spelled;
-pub use words::parse_words;
+pub use words::{Asked, parse_words};
