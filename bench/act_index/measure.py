@@ -1,11 +1,11 @@
 #!/usr/bin/env python3
-"""How fast an index answers and changes, beside GEOS; with --stress, whether its answers are right beside updates.
+"""How fast an index answers and changes, beside GEOS and S2; with --stress, whether its answers are right beside updates.
 
 The programs are kept here with .txt appended to each file's name, since the gate takes sources in crates/
 alone. This copies the crates that they stand on to a folder of its own, with what their checks keep in out/
 where there is any, puts the program beside them, proves and builds it by `rt run`, and runs it.
 
-GEOS answers the same points and polygons in turn with the index (apt-get install libgeos-dev).
+GEOS and S2 answer the same points and polygons in turn with the index (apt-get install libgeos-dev libs2-dev).
 """
 import pathlib
 import shutil
@@ -70,11 +70,13 @@ def main():
     if '--stress' in sys.argv:
         made(scratch, 'index_stress')
     else:
-        mine, geos, found = made(scratch, 'index_cost'), scratch / 'geos_cost', {}
+        mine, geos, s2, found = made(scratch, 'index_cost'), scratch / 'geos_cost', scratch / 's2_cost', {}
         subprocess.run(['cc', '-O2', '-o', geos, HERE / 'geos_cost.c', '-lgeos_c'], check=True)
+        subprocess.run(['g++', '-O2', '-std=c++17', '-o', s2, HERE / 's2_cost.cpp', '-ls2'], check=True)
         for _ in range(TURNS):
-            zones = told([mine], found, 'index')
-            told([geos] + [f'{name}={count}' for name, count in zones.items()], found, 'geos')
+            cases = [f'{name}={count}' for name, count in told([mine], found, 'index').items()]
+            told([geos] + cases, found, 'geos')
+            told([s2] + cases, found, 's2')
         for (name, how, side), rates in found.items():
             beside = statistics.median(found[name, 'one', 'geos'])
             rate = statistics.median(rates)
