@@ -11,14 +11,18 @@ use Rattle.act_script.proofs.CountFacts.{least_counts_are_fair}
 use Rattle.act_words.specs.Words.{Word, fits}
 use Rattle.act_join.specs.Ends.{AnswersRead, Ends, GetsText, GetsTextFront, bad_of}
 use Rattle.act_join.specs.declared.ended.Ended.TheVariants as ended
-use Rattle.actjoin.specs.Ends.{AskFor, HasBadLine, RunEnds, first_bad_text, message_of, status_of}
+use Rattle.act_join.specs.declared.fault.SegmentFault.TheVariants as why
+use Rattle.actjoin.specs.Ends.{AskFor, AskForDemo, HasBadLine, RunEnds, first_bad_text, message_of, status_of, status_text}
 use Rattle.actjoin.specs.declared.ending.Ending.{Ending}
 use Rattle.actjoin.specs.declared.ending.Ending.TheVariants as ending
 use Rattle.actjoin.proofs.SettingsFacts.{settings_are_one}
 
 -- a whole text is a front of it, and so is no text
-whole_front : (s : Stream) (text : List ℕ) → Gets s text → GetsFront s text
+pub whole_front : (s : Stream) (text : List ℕ) → Gets s text → GetsFront s text
 whole_front s text h = let all : take (length text) text ≡ text = take_all (length text) text (omega arith) in (length text, rw all h)
+
+pub none_gets : (s : Stream) (text : List ℕ) → Keeps s.old s.new → GetsFront s text
+none_gets s text h = (0, appends-kept s.old s.old s.new [] (appends-none s.old) h)
 
 text_front : (settings : Settings) (script : List ℕ) (out : Stream) → GetsText settings script out → GetsTextFront settings script out
 text_front settings script out h = (h.0, h.1, whole_front out _ h.2)
@@ -27,7 +31,7 @@ none_front : (settings : Settings) (script : List ℕ) (out : Stream) → Keeps 
 none_front settings script out h = (
   least_counts settings nothing [] 0 (script_segments settings.digits script),
   least_counts_are_fair settings script,
-  (0, appends-kept out.old out.old out.new [] (appends-none out.old) h),
+  none_gets out _ h,
 )
 
 -- how a run by these settings over a known script ends
@@ -39,10 +43,15 @@ EndsAt settings script input out (ending.Run (ended.BadLine n fault)) = (bad_lin
 EndsAt settings script input out (ending.Run ended.ReadFault) = HasFailed input × GetsTextFront settings script out × AnswersRead settings script input.new out
 EndsAt settings script input out (ending.Run ended.WriteFault) = HasFailed out × GetsTextFront settings script out
 EndsAt settings script input out (ending.Run ended.NoMemory) = GetsTextFront settings script out
+EndsAt settings script input out ending.Shown = ⊥
+EndsAt settings script input out (ending.Unshown fault) = ⊥
 
 module _ (words : List Word) (input out : Stream) (settings : Settings) (script : List ℕ) where
   same : (s : Settings) → AskFor words settings → AskFor words s → s ≡ settings
   same s fit ask = settings_are_one s settings cc
+
+  no_demo : (side : ℕ) (s : Settings) → AskFor words settings → AskForDemo words side s → ⊥
+  no_demo side s fit ask = cc
 
   pub run_at : (e : Ending) → AskFor words settings → input.old ≡ Some script → RunEnds words input out e → EndsAt settings script input out e
   run_at ending.Usage fit told h = let none : fits words ≡ None = h.0 in cc
@@ -64,6 +73,8 @@ module _ (words : List Word) (input out : Stream) (settings : Settings) (script 
   run_at (ending.Run ended.NoMemory) fit told h =
       let ends : Ends settings input out ended.NoMemory = subst (λ (s : Settings). Ends s input out ended.NoMemory) (same h.0 fit h.1) h.2 in
       rw told at ends
+  run_at ending.Shown fit told h = absurd (no_demo h.side h.settings fit h.asked)
+  run_at (ending.Unshown fault) fit told h = absurd (no_demo h.side h.settings fit h.asked)
 
   pub done_at : (e : Ending) → EndsAt settings script input out e → status_of e ≡ 0
       → (input.new ≡ Some []) × (bad_line settings.digits script ≡ None) × GetsText settings script out
@@ -74,6 +85,8 @@ module _ (words : List Word) (input out : Stream) (settings : Settings) (script 
   done_at (ending.Run ended.ReadFault) h is = absurd (omega arith)
   done_at (ending.Run ended.WriteFault) h is = absurd (omega arith)
   done_at (ending.Run ended.NoMemory) h is = absurd (omega arith)
+  done_at ending.Shown h is = absurd h
+  done_at (ending.Unshown fault) h is = absurd h
 
   pub bad_at : (e : Ending) → EndsAt settings script input out e → status_of e ≡ 2 → HasBadLine settings script × GetsText settings script out
   bad_at ending.Usage h is = absurd h
@@ -83,6 +96,8 @@ module _ (words : List Word) (input out : Stream) (settings : Settings) (script 
   bad_at (ending.Run ended.ReadFault) h is = absurd (omega arith)
   bad_at (ending.Run ended.WriteFault) h is = absurd (omega arith)
   bad_at (ending.Run ended.NoMemory) h is = absurd (omega arith)
+  bad_at ending.Shown h is = absurd h
+  bad_at (ending.Unshown fault) h is = absurd h
 
   pub read_at : (e : Ending) → EndsAt settings script input out e → status_of e ≡ 3 → AnswersRead settings script input.new out
   read_at ending.Usage h is = absurd h
@@ -92,6 +107,8 @@ module _ (words : List Word) (input out : Stream) (settings : Settings) (script 
   read_at (ending.Run ended.ReadFault) h is = h.2
   read_at (ending.Run ended.WriteFault) h is = absurd (omega arith)
   read_at (ending.Run ended.NoMemory) h is = absurd (omega arith)
+  read_at ending.Shown h is = absurd h
+  read_at (ending.Unshown fault) h is = absurd h
 
   pub front_at : (e : Ending) → EndsAt settings script input out e → GetsTextFront settings script out
   front_at ending.Usage h = absurd h
@@ -101,6 +118,8 @@ module _ (words : List Word) (input out : Stream) (settings : Settings) (script 
   front_at (ending.Run ended.ReadFault) h = h.1
   front_at (ending.Run ended.WriteFault) h = h.1
   front_at (ending.Run ended.NoMemory) h = h
+  front_at ending.Shown h = absurd h
+  front_at (ending.Unshown fault) h = absurd h
 
   no_bad : bad_line settings.digits script ≡ None → HasBadLine settings script → ⊥
   no_bad none bad = let h = rw none at bad in cc
@@ -117,6 +136,8 @@ module _ (words : List Word) (input out : Stream) (settings : Settings) (script 
   complete_at (ending.Run ended.ReadFault) h ok put = absurd (ok h.0)
   complete_at (ending.Run ended.WriteFault) h ok put = absurd (put h.0)
   complete_at (ending.Run ended.NoMemory) h ok put = (λ none. inr refl, λ bad. inr refl)
+  complete_at ending.Shown h ok put = absurd h
+  complete_at (ending.Unshown fault) h ok put = absurd h
 
   pub bad_text_at : (e : Ending) → EndsAt settings script input out e → status_of e ≡ 2 → message_of e ≡ first_bad_text settings script
   bad_text_at ending.Usage h is = absurd h
@@ -126,6 +147,8 @@ module _ (words : List Word) (input out : Stream) (settings : Settings) (script 
   bad_text_at (ending.Run ended.ReadFault) h is = absurd (omega arith)
   bad_text_at (ending.Run ended.WriteFault) h is = absurd (omega arith)
   bad_text_at (ending.Run ended.NoMemory) h is = absurd (omega arith)
+  bad_text_at ending.Shown h is = absurd h
+  bad_text_at (ending.Unshown fault) h is = absurd h
 
 -- the causes of 3 and 4, whatever the words
 module _ (words : List Word) (input out : Stream) where
@@ -137,6 +160,9 @@ module _ (words : List Word) (input out : Stream) where
   read_cause (ending.Run ended.ReadFault) h is = h.2.0
   read_cause (ending.Run ended.WriteFault) h is = absurd (omega arith)
   read_cause (ending.Run ended.NoMemory) h is = absurd (omega arith)
+  read_cause ending.Shown h is = absurd (omega arith)
+  read_cause (ending.Unshown why.WriteFault) h is = absurd (omega arith)
+  read_cause (ending.Unshown why.NoMemory) h is = absurd (omega arith)
 
   pub write_cause : (e : Ending) → RunEnds words input out e → status_of e ≡ 4 → HasFailed out
   write_cause ending.Usage h is = absurd (omega arith)
@@ -146,3 +172,18 @@ module _ (words : List Word) (input out : Stream) where
   write_cause (ending.Run ended.ReadFault) h is = absurd (omega arith)
   write_cause (ending.Run ended.WriteFault) h is = h.2.0
   write_cause (ending.Run ended.NoMemory) h is = absurd (omega arith)
+  write_cause ending.Shown h is = absurd (omega arith)
+  write_cause (ending.Unshown why.WriteFault) h is = h.shows.0
+  write_cause (ending.Unshown why.NoMemory) h is = absurd (omega arith)
+
+-- at a status other than 2 the message is the text of the status
+pub told_at : (e : Ending) → (status_of e ≡ 2 → ⊥) → message_of e ≡ status_text (status_of e)
+told_at ending.Usage other = refl
+told_at ending.Unread other = refl
+told_at (ending.Run ended.Done) other = refl
+told_at (ending.Run (ended.BadLine n fault)) other = absurd (other refl)
+told_at (ending.Run ended.ReadFault) other = refl
+told_at (ending.Run ended.WriteFault) other = refl
+told_at (ending.Run ended.NoMemory) other = refl
+told_at ending.Shown other = refl
+told_at (ending.Unshown fault) other = refl

@@ -1,2 +1,4 @@
 pub mod Faults
 pub mod Ends
+pub mod Demo
+pub mod Showing

@@ -2,15 +2,21 @@
 //!
 //! The script comes from standard input: zones with polygons in WKT that come, go and are replaced,
 //! and batches of points. The text goes to standard output: one reply for each update of the zones,
-//! and for each batch a line for each pair of a point and a zone that it is inside.
+//! and for each batch a line for each pair of a point and a zone that it is inside. A demo makes its
+//! script itself, and writes five sums over the replies.
 //!
 //! [`act_main`] is the whole run from bytes to bytes: its contract says what is written at each
 //! exit status. `main` hands it the standard streams.
 #![tactic(auto)]
 
+mod demo;
 mod ending;
+mod items;
 mod message;
+mod put;
 mod run;
+mod summary;
+mod sums;
 #[cfg(test)]
 mod tests;
 

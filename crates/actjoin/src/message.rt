@@ -7,35 +7,11 @@ ghost use Rattle.actjoin.specs.Ends.{PutsOrFails, message_of};
 ghost use Rattle.actjoin.specs.Faults.{bad_line_text, cut_fault_text, fault_text, line_fault_text, wkt_name};
 
 use crate::ending::Ending;
+use crate::put::{put, put_both, put_numbered};
 use act_io::{Failed, Sink, put_all};
-use act_join::{Ended, ScriptFault};
+use act_join::{Ended, ScriptFault, SegmentFault};
 use act_script::{CutFault, LineFault};
 use act_wkt::WktKind;
-use itoa::Buffer;
-
-/// Writes a text.
-#[tactic(auto, using(crate::proofs::PutFacts::puts))]
-fn put<K: Sink>(out: &mut K, text: &[u8]) -> Result<(), Failed>
-    ensures { PutsOrFails (stream K.written K.faults out.old out.new) text.now result }
-{
-    put_all(out, text)
-}
-
-/// Writes one text after another.
-fn put_both<K: Sink>(out: &mut K, first: &[u8], second: &[u8]) -> Result<(), Failed>
-    ensures { PutsOrFails (stream K.written K.faults out.old out.new) (first.now ++ second.now) result }
-{
-    put(out, first)?;
-    put(out, second)
-}
-
-/// Writes a text and then a number.
-fn put_numbered<K: Sink>(out: &mut K, text: &[u8], number: u32) -> Result<(), Failed>
-    ensures { PutsOrFails (stream K.written K.faults out.old out.new) (text.now ++ decimal number) result }
-{
-    let mut buffer = Buffer::new();
-    put_both(out, text, buffer.format(number).as_bytes())
-}
 
 /// The name of what is wrong with a polygon's text.
 fn wkt_name(kind: WktKind) -> &'static [u8]
@@ -61,7 +37,7 @@ fn put_wkt_fault<K: Sink>(out: &mut K, kind: WktKind, place: u32) -> Result<(), 
     ensures { PutsOrFails (stream K.written K.faults out.old out.new) (codes "wkt " ++ wkt_name kind ++ (codes " at " ++ decimal place)) result }
 {
     put_both(out, b"wkt ", wkt_name(kind))?;
-    put_numbered(out, b" at ", place)
+    put_numbered(out, b" at ", place as u64)
 }
 
 /// Writes why a line says nothing.
@@ -107,7 +83,7 @@ fn put_fault<K: Sink>(out: &mut K, fault: ScriptFault) -> Result<(), Failed>
 fn put_bad_line<K: Sink>(out: &mut K, line: u32, fault: ScriptFault) -> Result<(), Failed>
     ensures { PutsOrFails (stream K.written K.faults out.old out.new) (bad_line_text (bad_of line fault)) result }
 {
-    put_numbered(out, b"line ", line)?;
+    put_numbered(out, b"line ", line as u64)?;
     put(out, b": ")?;
     put_fault(out, fault)?;
     put(out, b"\n")
@@ -135,6 +111,16 @@ fn tell_run<E: Sink>(ended: Ended, err: &mut E)
     }
 }
 
+/// Says on the error output why the summary of the demo was not written whole.
+fn tell_demo<E: Sink>(fault: SegmentFault, err: &mut E)
+    ensures { GetsOrFails (stream E.written E.faults err.old err.new) (message_of (Ending.Unshown fault)) }
+{
+    match fault {
+        SegmentFault::WriteFault => say(err, b"write fault\n"),
+        SegmentFault::NoMemory => say(err, b"out of memory\n"),
+    }
+}
+
 /// Says on the error output how the run ended. A failure there changes nothing.
 ///
 /// It takes no memory: the text on a bad line is written in pieces.
@@ -144,9 +130,11 @@ pub fn tell<E: Sink>(ending: Ending, err: &mut E)
     match ending {
         Ending::Usage => say(
             err,
-            b"usage: actjoin join [--digits D] [--rows R] [--cells C] [--workers W]\n",
+            b"usage: actjoin join [--digits D] [--rows R] [--cells C] [--workers W] | demo N [--rows R] [--cells C] [--workers W]\n",
         ),
         Ending::Unread => say(err, b"out of memory\n"),
         Ending::Run(ended) => tell_run(ended, err),
+        Ending::Shown => {}
+        Ending::Unshown(fault) => tell_demo(fault, err),
     }
 }

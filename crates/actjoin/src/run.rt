@@ -1,21 +1,24 @@
 //! The whole run of the program.
 
 ghost use Rattle.std.specs.Prelude.{◌≡◌, ◌⊎◌, ℕ, List, [], Some, None, map, string_bytes};
+ghost use Rattle.std.specs.Io.KnownBytes.{Keeps};
 ghost use Rattle.act_grid.specs.declared.Settings.{Settings};
-ghost use Rattle.act_io.specs.Streams.{GetsOrFails, stream};
+ghost use Rattle.act_io.specs.Streams.{Gets, GetsFront, GetsOrFails, stream};
 ghost use Rattle.act_io.specs.Causes.{Rose};
 ghost use Rattle.act_script.specs.Script.{bad_line};
 ghost use Rattle.act_words.specs.Words.{fits};
 ghost use Rattle.act_join.specs.Ends.{AnswersRead, GetsText, GetsTextFront};
-ghost use Rattle.actjoin.specs.Ends.{AreUntouched, AskFor, HasBadLine, RunEnds, first_bad_text, message_of, status_of, status_text};
+ghost use Rattle.actjoin.specs.Ends.{AreUntouched, AskFor, AskForDemo, HasBadLine, RunEnds, first_bad_text, message_of, status_of, status_text};
+ghost use Rattle.actjoin.specs.Demo.{summary};
 ghost use Rattle.actjoin.specs.declared.ending.Ending.{Ending};
 
+use crate::demo::demo;
 use crate::ending::Ending;
 use crate::message::tell;
 use act_grid::NoMemory;
 use act_io::{Gate, Sink, Source};
 use act_join::engine;
-use act_words::parse_words;
+use act_words::{Asked, parse_words};
 use std::alloc::Global;
 use std::thread::Threads;
 
@@ -31,7 +34,12 @@ fn run<T: Threads + Sync, S: Source, K: Sink, G: Gate>(
     ensures { RunEnds (map string_bytes words.now) (stream S.left S.faults input.old input.new) (stream K.written K.faults out.old out.new) result }
 {
     match parse_words(alloc, words) {
-        Ok(Some(settings)) => Ending::Run(engine(rt, alloc, settings, input, out, gate)),
+        Ok(Some(Asked::Join(settings))) => {
+            Ending::Run(engine(rt, alloc, settings, input, out, gate))
+        }
+        Ok(Some(Asked::Demo(side, settings))) => {
+            Ending::of_demo(demo(rt, alloc, side, settings, out, gate))
+        }
         Ok(None) => Ending::Usage,
         Err(NoMemory) => Ending::Unread,
     }
@@ -41,7 +49,8 @@ fn run<T: Threads + Sync, S: Source, K: Sink, G: Gate>(
 /// writes its text to `out` and how it ended to `err`, and answers the exit status.
 ///
 /// It returns for every input, an endless one too: each read takes a byte or is the end, and lines
-/// and their bytes have limits. A failure of `err` changes no status.
+/// and their bytes have limits. A demo makes its script itself and reads nothing. A failure of `err`
+/// changes no status.
 pub fn act_main<T: Threads + Sync, S: Source, K: Sink, E: Sink, G: Gate>(
     rt: &T,
     alloc: Global,
@@ -91,6 +100,20 @@ pub fn act_main<T: Threads + Sync, S: Source, K: Sink, E: Sink, G: Gate>(
     ensures complete { (settings : Settings) (script : List ℕ) → AskFor (map string_bytes words.now) settings → S.left input.old ≡ Some script
         → (Rose (S.faults input.old) (S.faults input.new) → ⊥) → (Rose (K.faults out.old) (K.faults out.new) → ⊥)
         → (bad_line settings.digits script ≡ None → (result ≡ 0) ⊎ (result ≡ 5)) × (HasBadLine settings script → (result ≡ 2) ⊎ (result ≡ 5)) }
+
+    // Words that ask for the demo: the input is left alone, and the answer is 0, 4 or 5.
+    ensures demo_unread { (side : ℕ) (settings : Settings) → AskForDemo (map string_bytes words.now) side settings
+        → Keeps (S.left input.old) (S.left input.new) × ((result ≡ 0) ⊎ (result ≡ 4) ⊎ (result ≡ 5)) }
+
+    // At 0 the summary was written, and whatever comes, a front of it.
+    ensures demo_done { (side : ℕ) (settings : Settings) → AskForDemo (map string_bytes words.now) side settings → result ≡ 0
+        → Gets (stream K.written K.faults out.old out.new) (summary side settings) }
+    ensures demo_front { (side : ℕ) (settings : Settings) → AskForDemo (map string_bytes words.now) side settings
+        → GetsFront (stream K.written K.faults out.old out.new) (summary side settings) }
+
+    // Without a fault of the output the answer is 0, or there was no memory.
+    ensures demo_complete { (side : ℕ) (settings : Settings) → AskForDemo (map string_bytes words.now) side settings
+        → (Rose (K.faults out.old) (K.faults out.new) → ⊥) → (result ≡ 0) ⊎ (result ≡ 5) }
 
     // The error output gets the text of the status, which at 2 is that on the first bad line, or a
     // front of it where it failed.

@@ -9,7 +9,8 @@ use std::thread::Threads;
 
 const WORDS: [&str; 3] = ["join", "--digits", "0"];
 
-const USAGE: &str = "usage: actjoin join [--digits D] [--rows R] [--cells C] [--workers W]\n";
+const USAGE: &str =
+    "usage: actjoin join [--digits D] [--rows R] [--cells C] [--workers W] | demo N [--rows R] [--cells C] [--workers W]\n";
 
 const FIRST: &str =
     "zone,7,\"POLYGON((0 0,10 0,10 10,0 10,0 0))\"\nsync\npoint,1,0,0\npoint,2,10,0\npoint,3,0,10\npoint,4,9,9\n";
@@ -290,7 +291,7 @@ fn words_that_fit(rt: HostRuntime) -> Result<(), Fail> {
 }
 
 /// Words that don't fit, parted by blanks.
-static OTHER_WORDS: [&str; 12] = [
+static OTHER_WORDS: [&str; 14] = [
     "join --digits 10",
     "join --digits 7 --digits 7",
     "join --",
@@ -299,7 +300,9 @@ static OTHER_WORDS: [&str; 12] = [
     "join --rows=",
     "join 4",
     "demo",
-    "demo 4",
+    "demo 0",
+    "demo 17",
+    "demo 4 4",
     "--help",
     "--version",
     "--digits 0 join",
@@ -319,6 +322,45 @@ fn words_that_do_not_fit(rt: HostRuntime) -> Result<(), Fail> {
         assert_eq!(rt; told.out.as_str(), "");
         assert_eq!(rt; told.err.as_str(), USAGE);
         assert_eq!(rt; told.status, 1);
+    }
+    Ok(())
+}
+
+/// Words that ask for a demo, parted by blanks, with what it writes.
+static DEMOS: [(&str, &str); 5] = [
+    (
+        "demo 1",
+        "zones 1\nbatches 2\npoints 800\npairs 800\nkeys 0\n",
+    ),
+    (
+        "demo 2",
+        "zones 4\nbatches 2\npoints 3200\npairs 2400\nkeys 3200\n",
+    ),
+    (
+        "demo 4 --workers 1",
+        "zones 16\nbatches 2\npoints 12800\npairs 9600\nkeys 70400\n",
+    ),
+    (
+        "demo 4 --workers 8",
+        "zones 16\nbatches 2\npoints 12800\npairs 9600\nkeys 70400\n",
+    ),
+    (
+        "demo --workers 8 4",
+        "zones 16\nbatches 2\npoints 12800\npairs 9600\nkeys 70400\n",
+    ),
+];
+
+#[test]
+fn demos(rt: HostRuntime) -> Result<(), Fail> {
+    for (line, text) in &DEMOS {
+        let mut words = Vec::new(rt.alloc());
+        for word in line.split(' ') {
+            words.push(word)?;
+        }
+        let told = run(&rt, &words, FIRST)?;
+        assert_eq!(rt; told.out.as_str(), *text);
+        assert_eq!(rt; told.err.as_str(), "");
+        assert_eq!(rt; told.status, 0);
     }
     Ok(())
 }

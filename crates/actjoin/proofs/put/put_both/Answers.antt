@@ -1,5 +1,5 @@
 use Rattle.actjoin.proofs.PutFacts.{first_failed, put_then}
-use Rattle.actjoin.proofs.message.put_both.Goals as goal
+use Rattle.actjoin.proofs.put.put_both.Goals as goal
 
 pub returns-in_err-put : goal.returns-in_err-put
 returns-in_err-put g c = first_failed _ c.args.first.now c.args.second.now c.from_residual.result c.from_residual.ensures.0 c.in_err-put.ensures
