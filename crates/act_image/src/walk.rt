@@ -19,7 +19,7 @@ use crate::spots::{Spot, Spots};
 use act_cover::Cells;
 use act_entry::{Entry, Ref};
 use act_grid::{Cell, NoMemory};
-use act_super::{Next, Super, ZoneRef};
+use act_super::{Next, Super, ZoneRef, ZoneRefs};
 use std::alloc::{AllocError, Global};
 
 /// The nodes so far: their cells, the root first and the child nodes of each behind those of the node before, and for the
@@ -74,26 +74,27 @@ fn entry_for(refs: &[Ref], row: u32, place: u8) -> Entry
     }
 }
 
-// What a leaf adds to its node, whose list rows begin at one.
+// What a leaf with these references adds to its node, whose list rows begin at one.
 fn leaf_part(
     alloc: Global,
-    state: &Super,
-    next: &Next,
+    _state: &Super,
+    _next: &Next,
     places: &Firsts,
     level: u32,
     base: u32,
     leaf: Cell,
+    refs: &ZoneRefs,
     fill: &mut Fill,
     rows: &mut Vec<ListRow>,
 ) -> Result<Spot, NoMemory>
-    requires prepared { IsFor state.now.settings state.now.state next.now }
-    requires places { places.now ≡ chains_from 0 (changed state.now.state.zones next.now.entry) }
+    requires prepared { IsFor _state.now.settings _state.now.state _next.now }
+    requires places { places.now ≡ chains_from 0 (changed _state.now.state.zones _next.now.entry) }
     requires leaf { IsLeafOf level leaf }
-    ensures spot { let zones = changed state.now.state.zones next.now.entry in let start = start_at fill.old (length (refs_of zones leaf)) in IfOk result (λ spot. spot ≡ spot_at level leaf (entry_for (refs_on zones leaf) (base + start.row) start.place)) }
-    ensures fill { let zones = changed state.now.state.zones next.now.entry in IfOk result (λ spot. fill.new ≡ filled fill.old (length (refs_of zones leaf))) }
-    ensures rows { let zones = changed state.now.state.zones next.now.entry in IfOk result (λ spot. rows.new.items ≡ put_list fill.old (length (refs_of zones leaf)) rows.old.items (refs_on zones leaf)) }
+    requires refs { refs.now ≡ refs_of (changed _state.now.state.zones _next.now.entry) leaf }
+    ensures spot { let zones = changed _state.now.state.zones _next.now.entry in let start = start_at fill.old (length (refs_of zones leaf)) in IfOk result (λ spot. spot ≡ spot_at level leaf (entry_for (refs_on zones leaf) (base + start.row) start.place)) }
+    ensures fill { let zones = changed _state.now.state.zones _next.now.entry in IfOk result (λ spot. fill.new ≡ filled fill.old (length (refs_of zones leaf))) }
+    ensures rows { let zones = changed _state.now.state.zones _next.now.entry in IfOk result (λ spot. rows.new.items ≡ put_list fill.old (length (refs_of zones leaf)) rows.old.items (refs_on zones leaf)) }
 {
-    let refs = next.refs(alloc, state, leaf)?;
     let refs = slots(alloc, places, refs.as_slice())?;
     let count = fits(refs.len())?;
     let start = fill.start(count);
@@ -108,7 +109,7 @@ fn leaf_part(
     })
 }
 
-// What the leaves add to their node.
+// What the leaves, each with its references, add to their node.
 fn leaf_parts(
     alloc: Global,
     state: &Super,
@@ -117,10 +118,12 @@ fn leaf_parts(
     level: u32,
     base: u32,
     leaves: &[Cell],
+    refs: &[ZoneRefs],
 ) -> Result<NodeParts, NoMemory>
     requires prepared { IsFor state.now.settings state.now.state next.now }
     requires places { places.now ≡ chains_from 0 (changed state.now.state.zones next.now.entry) }
     requires leaves { (k : ℕ) → k < length leaves.now → IsLeafOf level (slice_index_or leaves.now k root_cell) }
+    requires refs { refs.now ≡ map (refs_of (changed state.now.state.zones next.now.entry)) leaves.now }
     ensures spots { IfOk result (λ parts. parts.spots.items ≡ leaf_spots (changed state.now.state.zones next.now.entry) level base no_fill leaves.now) }
     ensures rows { IfOk result (λ parts. parts.rows.items ≡ put_lists (changed state.now.state.zones next.now.entry) no_fill [] leaves.now) }
 {
@@ -129,7 +132,7 @@ fn leaf_parts(
     let mut fill = Fill::empty();
     for i in 0..leaves.len() {
         let spot = leaf_part(
-            alloc, state, next, places, level, base, leaves[i], &mut fill, &mut rows,
+            alloc, state, next, places, level, base, leaves[i], &refs[i], &mut fill, &mut rows,
         )?;
         spots.push(spot)?;
     }
@@ -159,7 +162,7 @@ fn push_children(
 }
 
 /// What stands in a node of the state after the change and in its list rows, which begin at one, and the cells of its child
-/// nodes, which begin at another. It asks once for the node, and once for each leaf.
+/// nodes, which begin at another. It asks once for the node.
 pub(crate) fn node_made(
     alloc: Global,
     state: &Super,
@@ -186,6 +189,7 @@ pub(crate) fn node_made(
         level,
         base,
         node.leaves.as_slice(),
+        node.refs.as_slice(),
     )?;
     let NodeParts { mut spots, rows } = parts;
     push_children(&mut spots, level, slot, node.children.as_slice())?;

@@ -9,10 +9,10 @@ use Rattle.act_image.proofs.walk.leaf_part.Goals as goal
 
 pub returns-clause-spot : goal.returns-clause-spot
 returns-clause-spot c =
-    let zones = changed c.args.state.now.state.zones c.args.next.now.entry in
+    let zones = changed c.args._state.now.state.zones c.args._next.now.entry in
     let leaf = c.args.leaf in
-    let refs : c.in_ok-refs-2.refs.items ≡ refs_on zones leaf =
-    c.in_ok-refs-2.ensures ∙ ap (found_refs c.args.places.now) (c.as_slice.ensures ∙ c.in_ok-refs.ensures) ∙ refs_found zones c.args.places.now leaf c.requires.places in
+    let refs : c.in_ok-refs.refs.items ≡ refs_on zones leaf =
+    c.in_ok-refs.ensures ∙ ap (found_refs c.args.places.now) (c.as_slice.ensures ∙ c.requires.refs) ∙ refs_found zones c.args.places.now leaf c.requires.places in
     let count : c.in_ok-count.count ≡ length (refs_of zones leaf) = omega (arith, c.in_ok-count.ensures.is, c.len.ensures, ap length refs, refs_length zones leaf) in
     let row : c.in_ok-row.row ≡ c.args.base + (start_at c.args.fill.now (length (refs_of zones leaf))).row =
     omega (arith, c.in_ok-row.ensures.is, c.start-start.ensures.row, ap (λ n. (start_at c.args.fill.now n).row) count) in
@@ -23,9 +23,9 @@ returns-clause-spot c =
 
 pub returns-clause-rows : goal.returns-clause-rows
 returns-clause-rows c =
-    let zones = changed c.args.state.now.state.zones c.args.next.now.entry in
+    let zones = changed c.args._state.now.state.zones c.args._next.now.entry in
     let leaf = c.args.leaf in
-    let refs : c.in_ok-refs-2.refs.items ≡ refs_on zones leaf =
-    c.in_ok-refs-2.ensures ∙ ap (found_refs c.args.places.now) (c.as_slice.ensures ∙ c.in_ok-refs.ensures) ∙ refs_found zones c.args.places.now leaf c.requires.places in
+    let refs : c.in_ok-refs.refs.items ≡ refs_on zones leaf =
+    c.in_ok-refs.ensures ∙ ap (found_refs c.args.places.now) (c.as_slice.ensures ∙ c.requires.refs) ∙ refs_found zones c.args.places.now leaf c.requires.places in
     let count : c.in_ok-count.count ≡ length (refs_of zones leaf) = omega (arith, c.in_ok-count.ensures.is, c.len.ensures, ap length refs, refs_length zones leaf) in
     c.in_ok-put_list.ensures ∙ (λ i. put_list c.args.fill.now (count i) c.args.rows.now.items ((c.as_slice-2.ensures.value ∙ refs) i))

@@ -20,8 +20,8 @@ leaf_parts-requires-clause-leaves c = λ k low.
 pub push_children-requires : goal.push_children-requires
 push_children-requires c = λ k low.
     let state : State = after c.args.state.now.settings c.args.state.now.state c.args.next.now.entry in
-    subst (λ n. IsLeafOf n (get_or c.as_slice-2.result.now k root_cell)) (sym c.level-level.ensures.value)
-    (child_of_node c.args.state.now.settings state c.args.cell c.as_slice-2.result.now k c.requires.node (c.as_slice-2.ensures ∙ c.in_ok-node.ensures.children) low)
+    subst (λ n. IsLeafOf n (get_or c.as_slice-3.result.now k root_cell)) (sym c.level-level.ensures.value)
+    (child_of_node c.args.state.now.settings state c.args.cell c.as_slice-3.result.now k c.requires.node (c.as_slice-3.ensures ∙ c.in_ok-node.ensures.children) low)
 
 pub returns-clause-rows : goal.returns-clause-rows
 unfolding lists_of
