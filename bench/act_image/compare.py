@@ -19,22 +19,15 @@ import types
 
 HERE = pathlib.Path(__file__).resolve().parent
 TOP = HERE.parent.parent
+sys.path.insert(0, str(TOP / 'bench'))
+from listing import listed                      # noqa: E402
+
 NAME = 'image_words'
 USES = 'act_grid act_geom act_base act_super act_image act_probe'
 SECONDS = '300'
 
 # How many runs one build serves, since `rt try` ends after ten minutes.
 PART = 6
-
-
-def listed():
-    """The line of each crate in crates.txt, and the crates that it names."""
-    lines = {}
-    for line in (TOP / 'crates.txt').read_text().splitlines():
-        head, _, uses = line.partition(':')
-        if head.split():
-            lines[head.split()[0]] = (line, uses.split())
-    return lines
 
 
 def prepare(scratch):

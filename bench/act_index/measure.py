@@ -16,18 +16,11 @@ import tempfile
 
 HERE = pathlib.Path(__file__).resolve().parent
 TOP = HERE.parent.parent
+sys.path.insert(0, str(TOP / 'bench'))
+from listing import listed                      # noqa: E402
+
 USES = 'act_grid act_io act_geom act_base act_index'
 TURNS = 3
-
-
-def listed():
-    """The line of each crate in crates.txt, and the crates that it names."""
-    lines = {}
-    for line in (TOP / 'crates.txt').read_text().splitlines():
-        head, _, uses = line.partition(':')
-        if head.split():
-            lines[head.split()[0]] = (line, uses.split())
-    return lines
 
 
 def made(scratch, name):
