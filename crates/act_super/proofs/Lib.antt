@@ -32,6 +32,7 @@ pub mod StepFacts
 pub mod GrownFacts
 pub mod NodeFacts
 pub mod ListingFacts
+pub mod BoxFacts
 pub mod SpanFacts
 pub mod OrderFacts
 pub mod ChoiceFacts

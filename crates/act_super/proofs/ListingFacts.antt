@@ -1,18 +1,26 @@
 -- Standings with the keys of their zones, one after the other.
-use Rattle.std.proofs.Common.{◌≡◌, ℕ, refl, ap, ◌∙◌, Bool, true, false, ◌||◌, List, [], ◌∷◌, map}
-use Rattle.act_grid.specs.Cell.{Address, IsCell}
+use Rattle.std.proofs.Common.{◌≡◌, ℕ, ◌+◌, ◌<◌, refl, sym, subst, ap, ◌∙◌, Bool, true, false, ◌||◌, ◌&&◌, List, [], ◌∷◌, ◌++◌, length, map, take, get_or}
+use Rattle.std.specs.Prelude.{All, nat_lt}
+use Rattle.std.proofs.lemmas.List.{take_more}
+use Rattle.std.proofs.lemmas.List.Elements.{All-append, All-cons, All-head, All-nil, All-tail, All-weaker}
+use Rattle.act_grid.specs.declared.Hull.{Hull}
+use Rattle.act_grid.specs.declared.Point.{Point}
+use Rattle.act_grid.specs.Hull.{IsIn}
+use Rattle.act_grid.specs.Cell.{Address, IsCell, hull_of}
 use Rattle.act_cover.specs.Covering.{class_at, is_on, is_within}
 use Rattle.act_super.specs.declared.listed.Listed.{Listed}
 use Rattle.act_super.specs.declared.standing.Standing.{Standing}
-use Rattle.act_super.specs.Grounds.{asks, on, some_asks}
-use Rattle.act_super.specs.Listings.{keys_in, listed_ground, refs_here, standings_in}
+use Rattle.act_super.specs.Frames.{IsFrame, IsWider, is_apart}
+use Rattle.act_super.specs.Grounds.{asks, is_split, on, some_asks}
+use Rattle.act_super.specs.Listings.{AreFramed, keys_in, listed_ground, refs_here, standings_in}
 use Rattle.act_super.specs.NodeParts.{leaves_near, splits_near}
 use Rattle.act_super.specs.Places.{zones_with}
 use Rattle.act_super.specs.Sizes.{refs_of}
 use Rattle.act_super.specs.Standings.{shapes_in, standing_ground}
+use Rattle.act_super.proofs.FrameFacts.{frame_outside, wider_in}
 use Rattle.act_super.proofs.NodeFacts.{leaves_same, narrow_equal, splits_same}
 use Rattle.act_super.proofs.StandingFacts.{outside_below}
-use Rattle.act_super.proofs.TreeFacts.{GoesDown}
+use Rattle.act_super.proofs.TreeFacts.{GoesDown, split_on}
 
 -- the references by the zones themselves
 refs_here_are : (zones : List Listed) (c : Address) → refs_here zones c ≡ refs_of (zones_with (keys_in zones) (shapes_in (standings_in zones))) c
@@ -52,3 +60,38 @@ leaves_here trained k zones c = leaves_same (listed_ground trained) (standing_gr
 
 pub splits_here : (trained : List Address) (k : ℕ) (zones : List Listed) (c : Address) → splits_near (listed_ground trained) k zones c ≡ splits_near (standing_ground trained) k (standings_in zones) c
 splits_here trained k zones c = splits_same (listed_ground trained) (standing_ground trained) zones (standings_in zones) (asked_here trained zones) k c
+
+pub frame_wider : (f g : Hull) (rings : List (List Point)) → IsWider f g → IsFrame f rings → IsFrame g rings
+frame_wider f g rings wider framed =
+    All-weaker (λ ring. All (IsIn f) ring) (λ ring. All (IsIn g) ring) (λ ring. All-weaker (IsIn f) (IsIn g) (λ p. wider_in f g p wider) ring) rings framed
+
+-- one zone more in a wider box
+pub framed_more : (f g : Hull) (zones : List Listed) (i : ℕ) (z : Listed) → i < length zones → z ≡ get_or zones i z → IsWider f g → IsFrame g z.zone.now.shape
+    → AreFramed f (take i zones) → AreFramed g (take (i + 1) zones)
+framed_more f g zones i z less at wider one so =
+    let P : Hull → Listed → Type 0 = λ h z. IsFrame h z.zone.now.shape in
+    let before : AreFramed g (take i zones) = All-weaker (P f) (P g) (λ z framed. frame_wider f g z.zone.now.shape wider framed) (take i zones) so in
+    subst (λ zs. AreFramed g zs) (sym (take_more zones i z less ∙ ap (λ x. take i zones ++ x ∷ []) (sym at)))
+    (All-append (P g) (take i zones) (z ∷ []) before (All-cons (P g) z [] one (All-nil (P g))))
+
+-- no zone is on a cell apart from the box
+apart_none : (trained : List Address) (frame : Hull) (zones : List Listed) (c : Address) → AreFramed frame zones → is_apart frame (hull_of c) ≡ true
+    → on (listed_ground trained) zones c ≡ []
+apart_none trained frame [] c framed apart = refl
+apart_none trained frame (z ∷ zones) c framed apart =
+    let P : Listed → Type 0 = λ z. IsFrame frame z.zone.now.shape in
+    let off : is_on (class_at z.zone.now.shape c) ≡ false = ap is_on (frame_outside frame z.zone.now.shape c (All-head P z zones framed) apart) in
+    rw off (apart_none trained frame zones c (All-tail P z zones framed) apart)
+
+pub apart_whole : (trained : List Address) (frame : Hull) (zones : List Listed) (c : Address) → AreFramed frame zones → is_apart frame (hull_of c) ≡ true
+    → is_split (listed_ground trained) zones c ≡ false
+apart_whole trained frame zones c framed apart =
+    sym (split_on (listed_ground trained) zones c) ∙ ap (λ zs. is_split (listed_ground trained) zs c) (apart_none trained frame zones c framed apart) ∙ and_false (nat_lt c.level 28)
+  where
+    and_false : (b : Bool) → (b && false) ≡ false
+    and_false true = refl
+    and_false false = refl
+
+pub apart_refs : (trained : List Address) (frame : Hull) (zones : List Listed) (c : Address) → AreFramed frame zones → is_apart frame (hull_of c) ≡ true → refs_here zones c ≡ []
+apart_refs trained frame zones c framed apart =
+    ap (map (λ (z : Listed). record { key = z.key; hit = is_within (class_at z.zone.now.shape c) })) (apart_none trained frame zones c framed apart)

@@ -14,10 +14,10 @@ use Rattle.act_super.specs.declared.standing.Standing.{Standing}
 use Rattle.act_super.specs.Grounds.{Ground, is_mixed, on, asks, some_asks}
 use Rattle.act_super.specs.Standings.{values}
 
-value_at : (refs : List (Bor Standing)) (i : ℕ) (r : Bor Standing) → i < length refs → r ≡ get_or refs i r → get_or (values refs) i r.now ≡ r.now
+pub value_at : (refs : List (Bor Standing)) (i : ℕ) (r : Bor Standing) → i < length refs → r ≡ get_or refs i r → get_or (values refs) i r.now ≡ r.now
 value_at refs i r less e = get_or-map (λ (r : Bor Standing). r.now) refs i r r.now less ∙ sym (ap (λ (r : Bor Standing). r.now) e)
 
-length-values : (refs : List (Bor Standing)) (i : ℕ) → i < length refs → i < length (values refs)
+pub length-values : (refs : List (Bor Standing)) (i : ℕ) → i < length refs → i < length (values refs)
 length-values refs i less = omega (arith, length-map refs (λ (r : Bor Standing). r.now))
 
 on_more : (g : Ground Standing) (refs : List (Bor Standing)) (c : Address) (i : ℕ) (r : Bor Standing) → i < length refs → r ≡ get_or refs i r

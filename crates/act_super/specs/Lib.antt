@@ -16,6 +16,7 @@ pub mod Frames
 pub mod Standings
 pub mod States
 pub mod Sound
+pub mod Boxes
 pub mod Listings
 pub mod Nodes
 pub mod Stands

@@ -1,11 +1,13 @@
 -- Standings with the keys of their zones, read in place.
-use Rattle.std.specs.Prelude.{ℕ, List, [], ◌∷◌, ◌++◌, Option, Some, None, map, filter, take, drop}
+use Rattle.std.specs.Prelude.{ℕ, List, [], ◌∷◌, ◌++◌, Option, Some, None, All, map, filter, take, drop}
 use Rattle.std.specs.Borrow.{Bor}
+use Rattle.act_grid.specs.declared.Hull.{Hull}
 use Rattle.act_grid.specs.Cell.{Address}
 use Rattle.act_cover.specs.Covering.{class_at, is_on, is_within}
 use Rattle.act_super.specs.declared.listed.Listed.{Listed}
 use Rattle.act_super.specs.declared.refs.ZoneRef.{ZoneRef}
 use Rattle.act_super.specs.declared.standing.Standing.{Standing}
+use Rattle.act_super.specs.Frames.{IsFrame}
 use Rattle.act_super.specs.Grounds.{Ground, is_among}
 
 abbrev pub keys_in : List Listed → List ℕ
@@ -31,3 +33,7 @@ listed_ground trained = record { class = λ z c. class_at z.zone.now.shape c; le
 abbrev pub refs_here : List Listed → Address → List ZoneRef
 refs_here zones c =
     map (λ (z : Listed). record { key = z.key; hit = is_within (class_at z.zone.now.shape c) }) (filter (λ (z : Listed). is_on (class_at z.zone.now.shape c)) zones)
+
+-- the vertices of each zone lie in the box
+abbrev pub AreFramed : Hull → List Listed → Type 0
+AreFramed frame zones = All (λ (z : Listed). IsFrame frame z.zone.now.shape) zones

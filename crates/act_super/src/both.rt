@@ -3,6 +3,7 @@
 ghost use Rattle.std.specs.Prelude.{◌≡◌, ◌+◌, ◌*◌, ◌^◌, ◌<◌, ◌≤◌, ◌&&◌, IfOk, length, nat_lt, true};
 ghost use Rattle.act_grid.specs.Cell.{IsCell};
 ghost use Rattle.act_cover.specs.Covering.{class_at, is_on};
+ghost use Rattle.act_super.specs.Boxes.{AreBoxed};
 ghost use Rattle.act_super.specs.Grounds.{asks, is_split, on};
 ghost use Rattle.act_super.specs.Packs.{inner, put_tree};
 ghost use Rattle.act_super.specs.Parts.{four_parts, inner_four, most_four, part, put_four};
@@ -10,13 +11,14 @@ ghost use Rattle.act_super.specs.Shifts.{IsShift, added};
 ghost use Rattle.act_super.specs.Standings.{standing_ground, values};
 ghost use Rattle.act_super.specs.Trees.{most, under};
 
+use crate::below::part_below;
 use crate::lists::lists;
 use crate::marks::Marks;
-use crate::narrow::{asks, is_on, part_on};
+use crate::narrow::{asks, is_on};
 use crate::pack::Pack;
 use crate::standing::Standing;
 use crate::whole::{Found, whole};
-use act_grid::Cell;
+use act_grid::{Cell, Hull};
 use std::alloc::{AllocError, Global};
 
 /// The deepest level of a leaf.
@@ -33,14 +35,15 @@ pub(crate) struct Shift {
 }
 
 /// The part under a cell without and with a zone that isn't Outside on it. It goes down only where the zone isn't
-/// Outside, but for the lists of the node at hand. The zones are those on the cell, `split` says whether it is split
-/// without the zone, and `wanted` whether the zone asks for it.
+/// Outside, but for the lists of the node at hand. The zones are those on the cell, within the box, `split` says whether
+/// it is split without the zone, and `wanted` whether the zone asks for it.
 #[cycle(both)]
 pub(crate) fn both(
     alloc: Global,
     marks: &Marks,
     k: u8,
     zones: &[&Standing],
+    frame: Hull,
     split: bool,
     zone: &Standing,
     wanted: bool,
@@ -51,6 +54,7 @@ pub(crate) fn both(
     requires level { cell.level ≤ 28 }
     requires cell { IsCell cell }
     requires few { length zones.now < 2 ^ 32 }
+    requires boxed { AreBoxed frame (values zones.now) }
     requires on { on (standing_ground marks.now) (values zones.now) cell ≡ values zones.now }
     requires split { split ≡ is_split (standing_ground marks.now) (values zones.now) cell }
     requires zone_on { is_on (class_at zone.now.shape cell) ≡ true }
@@ -70,7 +74,9 @@ pub(crate) fn both(
         if k == 0 {
             let mut old = Pack::empty();
             let mut new = Pack::empty();
-            let shift = both_four(alloc, marks, 3, zones, zone, cell, &mut old, &mut new)?;
+            let shift = both_four(
+                alloc, marks, 3, zones, frame, zone, cell, &mut old, &mut new,
+            )?;
             return Ok(Shift {
                 less: old.rows + shift.less,
                 more: new.rows + shift.more,
@@ -78,7 +84,7 @@ pub(crate) fn both(
                 with: shift.with,
             });
         }
-        let shift = both_four(alloc, marks, k - 1, zones, zone, cell, without, with)?;
+        let shift = both_four(alloc, marks, k - 1, zones, frame, zone, cell, without, with)?;
         return Ok(shift);
     }
     let count = zones.len() as u64;
@@ -107,6 +113,7 @@ fn both_four(
     marks: &Marks,
     k: u8,
     zones: &[&Standing],
+    frame: Hull,
     zone: &Standing,
     cell: Cell,
     without: &mut Pack,
@@ -115,6 +122,7 @@ fn both_four(
     requires level { cell.level < 28 }
     requires cell { IsCell cell }
     requires few { length zones.now < 2 ^ 32 }
+    requires boxed { AreBoxed frame (values zones.now) }
     requires deep { k ≤ 4 }
     requires without_rows { without.old.rows + 4 * 4 ^ k ≤ 2 ^ 32 }
     requires without_at { without.old.at ≤ 2 ^ 32 }
@@ -126,10 +134,10 @@ fn both_four(
     ensures with_at { IfOk result (λ shift. with.new.at ≤ 2 ^ 32) }
     ensures shift { IfOk result (λ shift. let old = four_parts (standing_ground marks.now) (values zones.now) cell in let new = four_parts (standing_ground marks.now) (added (values zones.now) zone.now) cell in IsShift (inner_four k old) (inner_four k new) (most_four old) (most_four new) shift) }
 {
-    let a = both_below(alloc, marks, k, zones, zone, cell, 0, without, with)?;
-    let b = both_below(alloc, marks, k, zones, zone, cell, 1, without, with)?;
-    let c = both_below(alloc, marks, k, zones, zone, cell, 2, without, with)?;
-    let d = both_below(alloc, marks, k, zones, zone, cell, 3, without, with)?;
+    let a = both_below(alloc, marks, k, zones, frame, zone, cell, 0, without, with)?;
+    let b = both_below(alloc, marks, k, zones, frame, zone, cell, 1, without, with)?;
+    let c = both_below(alloc, marks, k, zones, frame, zone, cell, 2, without, with)?;
+    let d = both_below(alloc, marks, k, zones, frame, zone, cell, 3, without, with)?;
     Ok(Shift {
         less: a.less + b.less + c.less + d.less,
         more: a.more + b.more + c.more + d.more,
@@ -144,6 +152,7 @@ fn both_below(
     marks: &Marks,
     k: u8,
     zones: &[&Standing],
+    frame: Hull,
     zone: &Standing,
     cell: Cell,
     q: u8,
@@ -153,6 +162,7 @@ fn both_below(
     requires level { cell.level < 28 }
     requires cell { IsCell cell }
     requires few { length zones.now < 2 ^ 32 }
+    requires boxed { AreBoxed frame (values zones.now) }
     requires quarter { q < 4 }
     requires deep { k ≤ 4 }
     requires without_rows { without.old.rows + 4 ^ k ≤ 2 ^ 32 }
@@ -167,7 +177,7 @@ fn both_below(
     ensures fits { IfOk result (λ shift. (shift.less < 2 ^ 57) × (shift.more < 2 ^ 57)) }
 {
     let below = cell.child(q);
-    let there = part_on(alloc, zones, marks, below)?;
+    let there = part_below(alloc, zones, frame, marks, below)?;
     let class = zone.class_on(below, below.hull());
     if is_on(class) {
         let level = below.level();
@@ -177,6 +187,7 @@ fn both_below(
             marks,
             k,
             there.zones.as_slice(),
+            frame,
             there.split,
             zone,
             wanted,

@@ -7,10 +7,8 @@ ghost use Rattle.act_super.specs.Frames.{IsFrame, IsWider, is_apart, is_around};
 use act_geom::Shape;
 use act_grid::{Hull, Point};
 
-/// A box around the vertices of the shape. It looks at each vertex once.
-pub(crate) fn frame_of(shape: &Shape) -> Hull
-    ensures { IsFrame result shape.now }
-{
+/// The box around nothing: each box around it and another one is that one.
+pub(crate) fn no_frame() -> Hull {
     let lo = Point {
         x: i32::MAX,
         y: i32::MAX,
@@ -19,7 +17,14 @@ pub(crate) fn frame_of(shape: &Shape) -> Hull
         x: i32::MIN,
         y: i32::MIN,
     };
-    let mut frame = Hull { lo, hi };
+    Hull { lo, hi }
+}
+
+/// A box around the vertices of the shape. It looks at each vertex once.
+pub(crate) fn frame_of(shape: &Shape) -> Hull
+    ensures { IsFrame result shape.now }
+{
+    let mut frame = no_frame();
     for k in 0..shape.rings() {
         frame = with_ring(frame, shape.ring(k));
     }
@@ -50,6 +55,22 @@ pub(crate) fn with_point(frame: Hull, p: Point) -> Hull
     let hi = Point {
         x: frame.hi.x.max(p.x),
         y: frame.hi.y.max(p.y),
+    };
+    Hull { lo, hi }
+}
+
+/// The least box around two boxes.
+pub(crate) fn with_frame(frame: Hull, other: Hull) -> Hull
+    ensures first { IsWider frame result }
+    ensures second { IsWider other result }
+{
+    let lo = Point {
+        x: frame.lo.x.min(other.lo.x),
+        y: frame.lo.y.min(other.lo.y),
+    };
+    let hi = Point {
+        x: frame.hi.x.max(other.hi.x),
+        y: frame.hi.y.max(other.hi.y),
     };
     Hull { lo, hi }
 }

@@ -22,6 +22,7 @@
 #![tactic(auto)]
 
 mod after;
+mod below;
 mod blocks;
 mod both;
 mod bounds;

@@ -1,15 +1,16 @@
 //! Standings with the keys of their zones, read in place.
 
 ghost use Rattle.std.specs.Prelude.{◌≡◌, ◌++◌, ◌≤◌, IfOk, OnOk, length};
-ghost use Rattle.act_super.specs.Grounds.{is_split, on};
-ghost use Rattle.act_super.specs.Listings.{keys_in, listed_ground, refs_here, spliced_keys, standings_in};
+ghost use Rattle.act_super.specs.Grounds.{is_split, on, some_asks};
+ghost use Rattle.act_super.specs.Listings.{AreFramed, keys_in, listed_ground, refs_here, spliced_keys, standings_in};
 ghost use Rattle.act_super.specs.Sound.{spliced};
 
+use crate::frame::{no_frame, with_frame};
 use crate::marks::Marks;
 use crate::narrow::{asks, is_on};
 use crate::refs::{ZoneRefs, push_ref};
 use crate::standing::Standing;
-use act_grid::Cell;
+use act_grid::{Cell, Hull};
 use std::alloc::{AllocError, Global};
 
 /// The deepest level of a leaf.
@@ -98,6 +99,38 @@ pub(crate) fn listed_on<'a>(
         zones: found,
         split: (level < DEEPEST) & asked,
     })
+}
+
+/// Whether the cell is split. It looks at the zones up to the first that asks for it.
+pub(crate) fn is_parted(zones: &[Listed], marks: &Marks, cell: Cell) -> bool
+    ensures { result ≡ is_split (listed_ground marks.now) zones.now cell }
+{
+    cell.level() < DEEPEST && any_asks(zones, marks, cell)
+}
+
+fn any_asks(zones: &[Listed], marks: &Marks, cell: Cell) -> bool
+    ensures { result ≡ some_asks (listed_ground marks.now) cell zones.now }
+{
+    let hull = cell.hull();
+    let level = cell.level();
+    let marked = marks.has(cell);
+    for one in zones {
+        if asks(one.zone, one.zone.class_on(cell, hull), level, marked) {
+            return true;
+        }
+    }
+    false
+}
+
+/// A box around all of these zones. It looks once at each.
+pub(crate) fn frame_around(zones: &[Listed]) -> Hull
+    ensures { AreFramed result zones.now }
+{
+    let mut frame = no_frame();
+    for one in zones {
+        frame = with_frame(frame, one.zone.frame);
+    }
+    frame
 }
 
 /// The references of a cell to these zones. It looks once at each zone.

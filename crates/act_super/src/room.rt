@@ -12,6 +12,7 @@ ghost use Rattle.act_super.specs.Sound.{spliced};
 ghost use Rattle.act_super.specs.Standings.{standing_ground, standing_most, standing_rows, values};
 ghost use Rattle.act_super.specs.States.{room_of};
 
+use crate::below::frame_over;
 use crate::both::{Shift, both};
 use crate::gather::gathered;
 use crate::marks::Marks;
@@ -277,6 +278,7 @@ fn shift_at_root(
         marks,
         4,
         top.zones.as_slice(),
+        frame_over(top.zones.as_slice()),
         top.split,
         zone,
         wanted,

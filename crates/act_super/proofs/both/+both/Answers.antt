@@ -1,15 +1,17 @@
-use Rattle.std.proofs.Common.{rules, ◌≡◌, ◌+◌, ◌*◌, ◌^◌, ◌<◌, ◌≤◌, ◌&&◌, length, ◌-◌, true, arith, sym, ◌∙◌, ap}
+use Rattle.std.proofs.Common.{rules, ◌≡◌, ◌+◌, ◌*◌, ◌^◌, ◌<◌, ◌≤◌, ◌&&◌, length, ◌-◌, true, arith, sym, subst, ◌∙◌, ap}
 use Rattle.std.specs.Prelude.{nat_lt}
 use Rattle.act_grid.specs.Cell.{Address, IsCell, child_of}
 use Rattle.act_cover.proofs.Placed.{child_cell}
 use Rattle.act_cover.specs.Covering.{class_at, is_on}
 use Rattle.act_super.specs.declared.pack.Pack.{Pack}
+use Rattle.act_super.specs.Boxes.{AreBoxed}
 use Rattle.act_super.specs.Grounds.{asks, is_split, on}
 use Rattle.act_super.specs.Packs.{empty_pack, inner, put_leaf, put_tree}
 use Rattle.act_super.specs.Parts.{four_parts, inner_four, most_four, part, put_four}
 use Rattle.act_super.specs.Shifts.{added}
 use Rattle.act_super.specs.Standings.{standing_ground, values}
 use Rattle.act_super.specs.Trees.{most, under}
+use Rattle.act_super.proofs.BoxFacts.{boxed_below}
 use Rattle.act_super.proofs.AddFacts.{length_added, on_added_self, split_new, split_still}
 use Rattle.act_super.proofs.RowFacts.{inner_fits, rows_after, rows_four}
 use Rattle.act_super.proofs.ShiftFacts.{shift_is, shift_leaf, shift_node}
@@ -135,6 +137,7 @@ both_below-both-requires t c =
     let wanted : (nat_lt c.level-level.result 28 && c.asks.result) ≡ (nat_lt c.child-below.result.level 28 && asks g c.child-below.result c.args.zone.now) =
     ap (λ b. nat_lt c.level-level.result 28 && b) (wanted_is c.child-below.result c.args.zone.now c.args.marks.now c.class_on-class.result c.level-level.result c.has.result c.asks.result c.class_on-class.ensures c.level-level.ensures.value c.has.ensures c.asks.ensures)
     ∙ ap (λ n. nat_lt n 28 && asks g c.child-below.result c.args.zone.now) c.level-level.ensures.value in
+    let boxed : AreBoxed c.args.frame (values c.as_slice.result.now) = subst (AreBoxed c.args.frame) (sym items) (boxed_below c.args.marks.now c.args.frame (values c.args.zones.now) c.child-below.result c.requires.boxed) in
     search rules
 
 pub both_below-returns-then-is_on-clause-fits : goal.both_below-returns-then-is_on-clause-fits

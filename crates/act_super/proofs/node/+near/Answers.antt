@@ -1,11 +1,15 @@
-use Rattle.std.proofs.Common.{rules, ◌≡◌, ◌<◌, arith, sym, ◌∙◌, ap, ◌++◌, append-nil, map, ◌∷◌, []}
-use Rattle.act_grid.specs.Cell.{IsCell}
+use Rattle.std.proofs.Common.{rules, ◌≡◌, ◌<◌, arith, sym, ◌∙◌, ap, ◌++◌, append-nil, map, ◌∷◌, [], subst, true}
+use Rattle.std.proofs.lemmas.List.Elements.{All-filter}
+use Rattle.act_grid.specs.Cell.{IsCell, hull_of}
+use Rattle.act_cover.specs.Covering.{is_on}
 use Rattle.act_cover.proofs.Placed.{child_cell}
+use Rattle.act_super.specs.declared.listed.Listed.{Listed}
+use Rattle.act_super.specs.Frames.{IsFrame, is_apart}
 use Rattle.act_super.specs.Grounds.{is_split, on}
 use Rattle.act_super.specs.NodeParts.{leaves_near, splits_near}
-use Rattle.act_super.specs.Listings.{listed_ground, refs_here}
+use Rattle.act_super.specs.Listings.{AreFramed, listed_ground, refs_here}
 use Rattle.act_super.proofs.NodeFacts.{four_after, leaf_alone, map_four, leaves_four, narrow_leaves, narrow_splits, no_leaf, no_split, split_alone, splits_four}
-use Rattle.act_super.proofs.ListingFacts.{listed_go_down, narrow_refs}
+use Rattle.act_super.proofs.ListingFacts.{apart_refs, apart_whole, listed_go_down, narrow_refs}
 use Rattle.act_super.proofs.TreeFacts.{split_on}
 use Rattle.act_super.proofs.UnderFacts.{split_low}
 use Rattle.act_super.proofs.node.+near.Goals as goal
@@ -80,13 +84,47 @@ near-near_below-requires-4 t c =
     let some : 0 < c.args.k = omega (arith, c.if-k-eq0.false) in
     search rules
 
+pub near_below-returns-then-is_apart-clause-leaves : goal.near_below-returns-then-is_apart-clause-leaves
+near_below-returns-then-is_apart-clause-leaves t c =
+    let g = listed_ground c.args.marks.now in
+    let apart : is_apart c.args.frame (hull_of c.child-below.result) ≡ true = ap (is_apart c.args.frame) (sym c.hull-hull.ensures) ∙ sym c.is_apart.ensures ∙ c.if-is_apart.true in
+    let whole = apart_whole c.args.marks.now c.args.frame c.args.zones.now c.child-below.result c.requires.framed apart in
+    c.in_ok-push.ensures.items ∙ ap (λ r. c.args.leaves.now.items ++ r) (sym (leaf_alone g c.args.k c.args.zones.now c.child-below.result whole) ∙ ap (leaves_near g c.args.k c.args.zones.now) c.child-below.ensures)
+
+pub near_below-returns-then-is_apart-clause-children : goal.near_below-returns-then-is_apart-clause-children
+near_below-returns-then-is_apart-clause-children t c =
+    let g = listed_ground c.args.marks.now in
+    let apart : is_apart c.args.frame (hull_of c.child-below.result) ≡ true = ap (is_apart c.args.frame) (sym c.hull-hull.ensures) ∙ sym c.is_apart.ensures ∙ c.if-is_apart.true in
+    let whole = apart_whole c.args.marks.now c.args.frame c.args.zones.now c.child-below.result c.requires.framed apart in
+    sym (
+    ap (λ r. c.args.children.now.items ++ r) (ap (splits_near g c.args.k c.args.zones.now) (sym c.child-below.ensures) ∙ no_split g c.args.k c.args.zones.now c.child-below.result whole)
+    ∙ append-nil c.args.children.now.items
+    )
+
+pub near_below-returns-then-is_apart-clause-refs : goal.near_below-returns-then-is_apart-clause-refs
+near_below-returns-then-is_apart-clause-refs t c =
+    let g = listed_ground c.args.marks.now in
+    let apart : is_apart c.args.frame (hull_of c.child-below.result) ≡ true = ap (is_apart c.args.frame) (sym c.hull-hull.ensures) ∙ sym c.is_apart.ensures ∙ c.if-is_apart.true in
+    let whole = apart_whole c.args.marks.now c.args.frame c.args.zones.now c.child-below.result c.requires.framed apart in
+    let none = apart_refs c.args.marks.now c.args.frame c.args.zones.now c.child-below.result c.requires.framed apart in
+    let leaves = sym (leaf_alone g c.args.k c.args.zones.now c.child-below.result whole) ∙ ap (leaves_near g c.args.k c.args.zones.now) c.child-below.ensures in
+    c.in_ok-push-2.ensures.items
+    ∙ ap (λ r. c.args.refs.now.items ++ r) (ap (λ r. r ∷ []) (c.from_vec.ensures ∙ c.new.ensures.items ∙ sym none) ∙ ap (map (refs_here c.args.zones.now)) leaves)
+
 pub near_below-near-requires : goal.near_below-near-requires
 near_below-near-requires t c =
+    let cell : IsCell c.child-below.result = rw c.child-below.ensures (child_cell c.args.cell c.args.q c.requires.cell (omega (arith, c.requires.level)) c.requires.quarter) in
+    search rules
+
+pub near_below-near-requires-2 : goal.near_below-near-requires-2
+near_below-near-requires-2 t c =
     let g = (listed_ground c.args.marks.now) in
     let cell : IsCell c.child-below.result = rw c.child-below.ensures (child_cell c.args.cell c.args.q c.requires.cell (omega (arith, c.requires.level)) c.requires.quarter) in
     let items : c.as_slice.result.now ≡ on g c.args.zones.now c.child-below.result = c.as_slice.ensures.value ∙ c.in_ok-there.ensures.zones in
     let split : c.in_ok-there.there.split ≡ is_split g c.as_slice.result.now c.child-below.result =
     c.in_ok-there.ensures.split ∙ sym (ap (λ r. is_split g r c.child-below.result) items ∙ split_on g c.args.zones.now c.child-below.result) in
+    let framed : AreFramed c.args.frame c.as_slice.result.now =
+    subst (AreFramed c.args.frame) (sym items) (All-filter (λ (z : Listed). is_on (g.class z c.child-below.result)) (λ (z : Listed). IsFrame c.args.frame z.zone.now.shape) c.args.zones.now c.requires.framed) in
     search rules
 
 pub near_below-returns-clause-leaves : goal.near_below-returns-clause-leaves

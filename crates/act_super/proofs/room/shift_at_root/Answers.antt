@@ -1,11 +1,13 @@
-use Rattle.std.proofs.Common.{◌≡◌, ◌^◌, ◌<◌, ◌≤◌, length, arith, sym, ◌∙◌, ap, true, false}
+use Rattle.std.proofs.Common.{◌≡◌, ◌^◌, ◌<◌, ◌≤◌, length, arith, subst, sym, ◌∙◌, ap, true, false}
 use Rattle.act_grid.specs.Cell.{root_cell}
 use Rattle.act_cover.specs.Covering.{class_at, is_on}
 use Rattle.act_super.specs.declared.pack.Pack.{Pack}
+use Rattle.act_super.specs.Boxes.{AreFramed}
 use Rattle.act_super.specs.Grounds.{is_split, on}
 use Rattle.act_super.specs.Shifts.{added}
 use Rattle.act_super.specs.Standings.{standing_ground, values}
 use Rattle.act_super.specs.Trees.{under}
+use Rattle.act_super.proofs.BoxFacts.{boxed_on}
 use Rattle.act_super.proofs.RoomFacts.{top_apart, top_shift}
 use Rattle.act_super.proofs.RowFacts.{inner_fits, rows_more}
 use Rattle.act_super.proofs.StandingFacts.{length_values}
@@ -23,6 +25,15 @@ pub both-requires-clause-few : goal.both-requires-clause-few
 both-requires-clause-few c =
     let items : values c.as_slice.result.now ≡ on (standing_ground c.args.marks.now) (values c.args.others.now) c.root-root.result = ap values c.as_slice.ensures.value ∙ c.in_ok-top.ensures.zones in
     omega (arith, ap (λ r. length r) items, length_on (standing_ground c.args.marks.now) (values c.args.others.now) c.root-root.result, length_values c.as_slice.result.now, length_values c.args.others.now, c.requires)
+
+pub both-requires-clause-boxed : goal.both-requires-clause-boxed
+both-requires-clause-boxed c =
+    let items : values c.as_slice.result.now ≡ on (standing_ground c.args.marks.now) (values c.args.others.now) c.root-root.result = ap values c.as_slice.ensures.value ∙ c.in_ok-top.ensures.zones in
+    let here : on (standing_ground c.args.marks.now) (values c.as_slice.result.now) c.root-root.result ≡ values c.as_slice.result.now =
+    ap (λ r. on (standing_ground c.args.marks.now) r c.root-root.result) items ∙ on_again (standing_ground c.args.marks.now) (values c.args.others.now) c.root-root.result ∙ sym items in
+    let framed : AreFramed c.frame_over.result (values c.as_slice.result.now) =
+    subst (λ refs. AreFramed c.frame_over.result (values refs)) (c.as_slice-2.ensures.value ∙ sym c.as_slice.ensures.value) c.frame_over.ensures in
+    boxed_on c.args.marks.now c.frame_over.result (values c.as_slice.result.now) c.root-root.result framed here
 
 pub both-requires-clause-on : goal.both-requires-clause-on
 both-requires-clause-on c =
