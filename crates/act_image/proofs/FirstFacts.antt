@@ -10,7 +10,7 @@ use Rattle.act_base.proofs.Times.{from_once, from_ranged, times_else, times_get,
 use Rattle.act_super.specs.declared.entry.State.{State}
 use Rattle.act_super.specs.States.{nothing}
 use Rattle.act_super.specs.Stands.{IsBlank, Stands}
-use Rattle.act_image.specs.Pics.{IsFresh, IsPlan, Makes, Opens, Pic, Planned, Shows, empty_sight, firsts_in, installed, layout_in, planned_word, renewed, row_at, rows_in, with_numbers}
+use Rattle.act_image.specs.Pics.{IsBound, IsFresh, IsPlan, Makes, Opens, Pic, Planned, Shows, empty_sight, firsts_in, installed, layout_in, planned_word, renewed, row_at, rows_in, with_numbers}
 use Rattle.act_image.proofs.BindFacts.{bound}
 
 -- ---- where a row stands
@@ -111,3 +111,16 @@ first_stands settings p old q state new rows opens empty plan is long numbered f
     let fresh : IsFresh p rows = subst (IsFresh p) (sym numbered) (first_fresh p old.need opens.1 few) in
     let shown : Shows settings p empty_sight state = subst (Shows settings p empty_sight) (sym empty) (opens.2 settings empty_sight blank_is) in
     subst (λ (z : Planned). Stands settings (renewed empty_sight z) z.root new) (sym is) (stands_by settings p old state new plan rows fresh long empty_sight shown)
+
+-- the image after a first plan
+module _ (settings : Settings) (p : Pic) (q : Planned) (state new : State) (rows : List ℕ) (opens : Opens p) (empty : state ≡ nothing) (plan : IsPlan settings p q state new) (long : length rows ≡ q.need) (numbered : rows ≡ from 2 q.need) (few : q.need ≤ 1000) where
+  fresh : IsFresh p rows
+  fresh = subst (IsFresh p) (sym numbered) (first_fresh p q.need opens.1 few)
+
+  pub first_bound : IsBound settings p (with_numbers q rows) state new
+  first_bound = bound settings p q state new plan rows fresh long
+
+  pub first_settled : (x : Sight) × Shows settings (installed p (with_numbers q rows)) x new
+  first_settled =
+      let shown : Shows settings p empty_sight state = subst (Shows settings p empty_sight) (sym empty) (opens.2 settings empty_sight blank_is) in
+      (renewed empty_sight (with_numbers q rows), first_bound.shows empty_sight (renewed empty_sight (with_numbers q rows)) shown (makes p (with_numbers q rows) empty_sight (λ r. omega (arith, fresh.once r))))

@@ -4,9 +4,10 @@ ghost use Rattle.std.specs.Prelude.{◌≡◌, ◌<◌, ◌≤◌, ◌^◌, IfOk
 ghost use Rattle.act_base.specs.Counting.{from};
 ghost use Rattle.act_grid.specs.declared.Settings.{Settings as Limits};
 ghost use Rattle.act_super.specs.declared.entry.State.{State};
-ghost use Rattle.act_super.specs.States.{IsFor, after, nothing};
+ghost use Rattle.act_base.specs.Sight.{Sight};
+ghost use Rattle.act_super.specs.States.{IsFor, after, needs, nothing};
 ghost use Rattle.act_super.specs.Stands.{Stands};
-ghost use Rattle.act_image.specs.Pics.{empty_sight, renewed, row_at};
+ghost use Rattle.act_image.specs.Pics.{Shows, empty_sight, renewed, row_at};
 
 use crate::{Image, Plan};
 use act_base::Steps;
@@ -125,5 +126,81 @@ fn one_zone(rt: HostRuntime) -> Result<(), Fail> {
     assert!(rt; reads <= 14);
     let (key, reads) = look(&mut words, Point { x: -1, y: 0 });
     assert_eq!(rt; (key, reads), (0, 1));
+    Ok(())
+}
+
+/// How many rows a plan of all rows needs, and how many a plan of the path.
+fn needed(alloc: Global, image: &Image, state: &Super, next: &Next) -> Result<(u32, u32), NoMemory>
+    requires stands { (x : Sight) × Shows state.now.settings image.now x state.now.state }
+    requires prepared { IsFor state.now.settings state.now.state next.now }
+{
+    let whole = image.plan_whole(alloc, state, next)?;
+    let path = image.plan_path(alloc, state, next)?;
+    Ok((whole.need(), path.need()))
+}
+
+/// The same of a first change.
+fn first_needed(alloc: Global, state: &Super, next: &Next) -> Result<(u32, u32), NoMemory>
+    requires empty { state.now.state ≡ nothing }
+    requires prepared { IsFor state.now.settings state.now.state next.now }
+{
+    let image = Image::new(alloc)?;
+    needed(alloc, &image, state, next)
+}
+
+/// The first of the new rows of a plan, and how many rows the new image lacks.
+fn ends(plan: &Plan) -> (u32, usize) {
+    let first = if plan.need() > 0 { plan.row(0) } else { 0 };
+    (first, plan.gone().len())
+}
+
+/// The image of a first change by its path, its state, and the ends of the plan.
+fn settled(alloc: Global, state: &mut Super, next: Next) -> Result<(Image, (u32, usize)), NoMemory>
+    requires empty { state.old.state ≡ nothing }
+    requires prepared { IsFor state.old.settings state.old.state next }
+    requires room { needs next.entry ≤ state.old.spare }
+    ensures state { state.new.settings ≡ state.old.settings }
+    ensures image { IfOk result (λ r. (x : Sight) × Shows state.new.settings r.0 x state.new.state) }
+{
+    let mut image = Image::new(alloc)?;
+    let mut plan = image.plan_path(alloc, state, &next)?;
+    let need = plan.need();
+    if need > 1000 {
+        return Err(NoMemory);
+    }
+    let rows = numbers(alloc, need)?;
+    plan.bind(rows.as_slice());
+    let found = ends(&plan);
+    image.install(plan);
+    state.commit(next);
+    Ok((image, found))
+}
+
+fn square(alloc: Global, low: i32, high: i32) -> Result<Shape, Fail> {
+    let mut shape = Shape::new(alloc);
+    let at = |x, y| Point { x, y };
+    shape.push_ring(&[at(low, low), at(high, low), at(high, high), at(low, high)])?;
+    Ok(shape)
+}
+
+#[test]
+fn paths_of_changes(rt: HostRuntime) -> Result<(), Fail> {
+    let alloc = rt.alloc();
+    let settings = Settings::new(0, 16_384, 64, 4).ok_or("limits")?;
+    let mut state = Super::new(alloc, settings);
+    let Ok(next) = state.prepare_add(alloc, 7, square(alloc, 0, 10)?) else {
+        return Err("turned away".into());
+    };
+    assert_eq!(rt; first_needed(alloc, &state, &next)?, (8, 8));
+    let (image, found) = settled(alloc, &mut state, next)?;
+    assert_eq!(rt; found, (2, 1));
+    let Ok(next) = state.prepare_drop(alloc, 7) else {
+        return Err("turned away".into());
+    };
+    assert_eq!(rt; needed(alloc, &image, &state, &next)?, (1, 1));
+    let Ok(next) = state.prepare_add(alloc, 2, square(alloc, -1008, -998)?) else {
+        return Err("turned away".into());
+    };
+    assert_eq!(rt; needed(alloc, &image, &state, &next)?, (15, 8));
     Ok(())
 }
