@@ -34,6 +34,8 @@ pub struct Writer {
     pub(crate) pool: Pool,
     // How many adds, drops and replaces the history has.
     pub(crate) updates: u64,
+    // The buffers of readers that came back. The next ones to be lent answer in them.
+    spare: Vec<Buffers>,
 }
 
 impl Model for Writer {
@@ -63,17 +65,16 @@ fn shape_again(next: Next) -> Shape
     shape
 }
 
-fn take_back(master: &mut Master<Zones>, reader: Reader)
+// Takes a reader back, and gives its buffers.
+fn take_back(master: &mut Master<Zones>, reader: Reader) -> Buffers
     requires { reader.table ≡ master.old.table }
     ensures same { (master.new.table ≡ master.old.table) × (master.new.desk ≡ returned master.old.desk reader.ticket) }
     ensures begins { Begins reader.ticket.seen master.old.desk.history }
 {
-    let Reader {
-        guest,
-        buffers: _buffers,
-    } = reader;
+    let Reader { guest, buffers } = reader;
     let Some(guest) = guest else { unreachable!() };
     master.give_back(guest);
+    buffers
 }
 
 impl Writer {
@@ -99,6 +100,7 @@ impl Writer {
         let image = Image::new(alloc)?;
         let plain = Super::new(alloc, settings);
         let pool = Pool::new(alloc, 2 * settings.rows)?;
+        let spare = Vec::with_capacity(alloc, pins as usize)?;
         let master = new(alloc, settings.rows, pins)?;
         Ok(Writer {
             alloc,
@@ -107,6 +109,7 @@ impl Writer {
             image,
             pool,
             updates: 0,
+            spare,
         })
     }
 
@@ -255,25 +258,32 @@ impl Writer {
         })
     }
 
-    /// Lends the lowest reader that is not lent. It has seen the whole history. It takes no memory.
+    /// Lends the lowest reader that is not lent. It has seen the whole history, and answers in the buffers of one that came
+    /// back, where there is one. It takes no memory.
     pub fn lend(&mut self) -> Result<Reader, NoPin>
         ensures ok { IfOk result (λ r. (lowest self.old.desk.bounds < self.old.desk.pins) × (self.new ≡ record self.old { desk = lent self.old.desk }) × (r.ticket ≡ newcomer self.old.desk) × (r.table ≡ self.old.table)) }
         ensures err { IfErr result (λ _. (lowest self.old.desk.bounds ≡ self.old.desk.pins) × (self.new ≡ self.old)) }
     {
         let guest = self.master.lend()?;
+        let buffers = match self.spare.pop() {
+            Some(buffers) => buffers,
+            None => Buffers::new(self.alloc),
+        };
         Ok(Reader {
             guest: Some(guest),
-            buffers: Buffers::new(self.alloc),
+            buffers,
         })
     }
 
-    /// Takes a reader back, which was lent by this writer: its number may be lent again.
+    /// Takes a reader back, which was lent by this writer: its number may be lent again, and its buffers are kept.
     pub fn give_back(&mut self, reader: Reader)
         requires { reader.table ≡ self.old.table }
         ensures same { self.new ≡ record self.old { desk = returned self.old.desk reader.ticket } }
         ensures begins { Begins reader.ticket.seen self.old.desk.history }
     {
-        take_back(&mut self.master, reader);
+        let buffers = take_back(&mut self.master, reader);
+        // There is room for those of all readers that may be lent.
+        let _ = self.spare.push(buffers);
     }
 
     /// A token of the history so far.
