@@ -7,6 +7,7 @@ use crate::{Change, Changes, Reader, Refused, Writer};
 use act_base::Steps;
 use act_grid::{Layers, NoMemory, Point};
 use act_io::{Gate, Place};
+use act_probe::Keys;
 use std::alloc::Global;
 use std::marker::Brand;
 use std::sync::Mutex;
@@ -140,40 +141,65 @@ fn one_of(alloc: Global, adds: bool) -> Result<Change, NoMemory> {
     })
 }
 
-/// Lists of changes, as many as the table has room for, and then an add.
+/// Lists of changes, as many as the table has room for, and then adds.
 #[derive(Drop)]
 struct Lists<L: Ledger> {
     alloc: Global,
     writer: Writer,
+    /// A reader that holds no version between its calls.
+    other: Option<Reader>,
     steps: Steps<L>,
-    done: [u32; 3],
-    held: Result<u64, Refused>,
+    /// How many changes of each list were made, and how many are left.
+    done: [(u32, usize); 3],
+    /// The version of what the other reader finds at (9, 9) after each of the first two lists, and how many zones.
+    found: [(u64, u32); 2],
+    held: [Result<u64, Refused>; 3],
 }
 
-/// How many of these changes were made.
+/// How many of these changes were made, and how many are left.
 fn apply<L: Ledger>(
     alloc: Global,
     writer: &mut Writer,
     count: u32,
     adds_first: bool,
     steps: &mut Steps<L>,
-) -> u32 {
+) -> (u32, usize) {
     match in_turn(alloc, count, adds_first) {
-        Ok(changes) => writer.apply(changes, steps).done,
-        Err(_) => 0,
+        Ok(changes) => {
+            let applied = writer.apply(changes, steps);
+            (applied.done, applied.rest.as_slice().len())
+        }
+        Err(_) => (0, 0),
     }
+}
+
+fn found_by<L: Ledger>(other: &mut Option<Reader>, steps: &mut Steps<L>) -> (u64, u32) {
+    let Some(reader) = other else {
+        return (0, 0);
+    };
+    let mut keys = Keys::new();
+    let found = reader.at(Point { x: 9, y: 9 }, Layers::all(), &mut keys, steps);
+    (found.version, found.count)
 }
 
 impl<L: Ledger> Work for Lists<L> {
     fn run(&mut self) {
         let first = apply(self.alloc, &mut self.writer, 99, true, &mut self.steps);
+        let odd = found_by(&mut self.other, &mut self.steps);
         let second = apply(self.alloc, &mut self.writer, 1, false, &mut self.steps);
-        let third = apply(self.alloc, &mut self.writer, 901, true, &mut self.steps);
+        let even = found_by(&mut self.other, &mut self.steps);
+        let third = apply(self.alloc, &mut self.writer, 900, true, &mut self.steps);
         self.done = [first, second, third];
-        self.held = add(self.alloc, &mut self.writer, 7, &mut self.steps);
+        self.found = [odd, even];
+        self.held = [
+            add(self.alloc, &mut self.writer, 7, &mut self.steps),
+            add(self.alloc, &mut self.writer, 7, &mut self.steps),
+            add(self.alloc, &mut self.writer, 7, &mut self.steps),
+        ];
     }
 }
 
+/// What the lists under a pin told, what the reader finds, and what an add answers after it.
 fn lists_held<L: Ledger + Send, M: Ledger>(
     alloc: Global,
     writer: Writer,
@@ -181,33 +207,38 @@ fn lists_held<L: Ledger + Send, M: Ledger>(
     writes: Blank,
     reads: Blank,
 ) -> (
-    [u32; 3],
-    Result<u64, Refused>,
+    [(u32, usize); 3],
+    [(u64, u32); 2],
+    [Result<u64, Refused>; 3],
     Option<(u64, usize)>,
     Result<u64, Refused>,
 )
     requires writes { (writes.name ≡ L.name) × (writes.parts ≡ L.parts) × (0 < L.parts) }
     requires reads { (reads.name ≡ M.name) × (reads.parts ≡ M.parts) × (0 < M.parts) }
 {
+    let mut writer = writer;
+    let other = writer.lend().ok();
     let busy = Busy {
         work: Mutex::new(Lists {
             alloc,
             writer,
+            other,
             steps: Steps::<L>::new(writes),
-            done: [0; 3],
-            held: Err(Refused::NoMemory),
+            done: [(0, 0); 3],
+            found: [(0, 0); 2],
+            held: [Err(Refused::NoMemory); 3],
         }),
     };
     let found = ask::<Lists<L>, M>(alloc, reader, &busy, reads);
     let mut work = busy.work.into_inner();
     let again = add(alloc, &mut work.writer, 7, &mut work.steps);
-    (work.done, work.held, found, again)
+    (work.done, work.found, work.held, found, again)
 }
 
 #[test]
 fn lists_fill_the_table_under_a_pin(rt: HostRuntime) -> Result<(), Fail> {
     let (writer, mut reader) = opened(rt.alloc(), 2251)?;
-    let (done, added, found, again) = lists_held::<Brand, Brand>(
+    let (done, seen, added, found, again) = lists_held::<Brand, Brand>(
         rt.alloc(),
         writer,
         &mut reader,
@@ -219,8 +250,9 @@ fn lists_fill_the_table_under_a_pin(rt: HostRuntime) -> Result<(), Fail> {
         version: 0,
         word: 1,
     };
-    assert_eq!(rt; done, [99, 1, 900]);
-    assert_eq!(rt; added, Err(held));
+    assert_eq!(rt; done, [(99, 0), (1, 0), (900, 0)]);
+    assert_eq!(rt; seen, [(99, 1), (100, 0)]);
+    assert_eq!(rt; added, [Err(held); 3]);
     assert_eq!(rt; found, Some((0, 0)));
     assert_eq!(rt; again, Ok(1001));
     Ok(())

@@ -16,6 +16,8 @@
 //! ```
 #![tactic(auto)]
 
+#[cfg(test)]
+mod answer_tests;
 mod carry;
 mod changes;
 mod done;

@@ -55,11 +55,11 @@ pub(crate) fn version_after(dropped: Result<Done, Refused>) -> Result<u64, Refus
     }
 }
 
-/// A writer at version 0, and its first reader.
+/// A writer at version 0 for two readers, and the first of them.
 pub(crate) fn opened(alloc: Global, rows: u32) -> Result<(Writer, Reader), Fail>
     ensures { IfOk result (λ r. r.1.table ≡ r.0.table) }
 {
-    let mut writer = Writer::new(alloc, settings(rows)?, 1)?;
+    let mut writer = Writer::new(alloc, settings(rows)?, 2)?;
     let Ok(reader) = writer.lend() else {
         return Err(Fail::from("no pin"));
     };
@@ -160,7 +160,7 @@ fn an_idle_reader_holds_no_version(rt: HostRuntime) -> Result<(), Fail> {
     Ok(())
 }
 
-/// Updates at eight rows, most of them refused.
+/// Updates, most of them refused where there are eight rows.
 fn refusals<L: Ledger>(
     alloc: Global,
     writer: &mut Writer,
@@ -200,6 +200,25 @@ fn updates_are_refused_for_their_causes(rt: HostRuntime) -> Result<(), Fail> {
     ];
     assert_eq!(rt; told, wanted);
     assert_eq!(rt; writer.updates(), 4);
+    Ok(())
+}
+
+#[test]
+fn both_zones_stand_in_sixteen_rows(rt: HostRuntime) -> Result<(), Fail> {
+    let mut writer = Writer::new(rt.alloc(), settings(16)?, 1)?;
+    let told = refusals::<Brand>(rt.alloc(), &mut writer, Blank::new(1));
+    let wanted = [
+        Ok(1),
+        Err(Refused::Duplicate),
+        Err(Refused::Unknown),
+        Err(Refused::Unknown),
+        Err(Refused::Same),
+        Ok(2),
+        Ok(3),
+        Ok(4),
+        Err(Refused::Duplicate),
+    ];
+    assert_eq!(rt; told, wanted);
     Ok(())
 }
 
