@@ -133,19 +133,11 @@ item_leads old new item pending solves = λ more apart.
 first_number : (k n : ℕ) → k < n → range_with_len k (n - k) ≡ k ∷ range_with_len (k + 1) (n - (k + 1))
 first_number k n less = let e : n - k ≡ suc (n - (k + 1)) = omega arith in ap (range_with_len k) e
 
-no_number : (k n : ℕ) → n ≤ k → range_with_len k (n - k) ≡ []
-no_number k n past = let e : n - k ≡ 0 = omega arith in ap (range_with_len k) e
-
 -- some of the items were taken, and these are left
 abbrev pub LeadsOn : Showing → List Item → List Item → Showing → Type 0
 LeadsOn old items left new = (more : List Item) → AreApart (segments_from old.segmenter (items ++ more))
     → AreApart (segments_from new.segmenter (left ++ more))
     × (sums_with old.run (segments_from old.segmenter (items ++ more)) old.sums ≡ sums_with new.run (segments_from new.segmenter (left ++ more)) new.sums)
-
-pub none_taken : (f : ℕ → Item) (s : Showing) (n : ℕ) → LeadsOn s (map f (range_with_len 0 n)) (map f (range_with_len 0 (n - 0))) s
-none_taken f s n =
-    let all : n ≡ n - 0 = omega arith in
-    subst (λ (m : ℕ). LeadsOn s (map f (range_with_len 0 n)) (map f (range_with_len 0 m)) s) all (λ more apart. (apart, refl))
 
 pub one_taken : (f : ℕ → Item) (old mid new : Showing) (items : List Item) (k n : ℕ) → k < n → LeadsOn old items (map f (range_with_len k (n - k))) mid
     → Leads mid (f k ∷ []) new → LeadsOn old items (map f (range_with_len (k + 1) (n - (k + 1)))) new
@@ -158,11 +150,6 @@ one_taken f old mid new items k n less first second = λ more apart.
     × (sums_with old.run (segments_from old.segmenter (items ++ more)) old.sums ≡ sums_with mid.run (segments_from mid.segmenter (xs ++ more)) mid.sums)) first_is (first more apart) in
     let two = second (left ++ more) one.0 in
     (two.0, one.1 ∙ two.1)
-
-pub all_taken : (f : ℕ → Item) (old new : Showing) (items : List Item) (k n : ℕ) → n ≤ k → LeadsOn old items (map f (range_with_len k (n - k))) new → Leads old items new
-all_taken f old new items k n past leads =
-    let none : map f (range_with_len k (n - k)) ≡ [] = ap (λ (ks : List ℕ). map f ks) (no_number k n past) in
-    subst (λ (left : List Item). LeadsOn old items left new) none leads
 
 -- ---- all of the demo
 

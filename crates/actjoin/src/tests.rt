@@ -209,8 +209,9 @@ static BAD_LINES: [(&str, &str); 34] = [
 #[test]
 fn bad_lines(rt: HostRuntime) -> Result<(), Fail> {
     let alloc = rt.alloc();
+    let words = ["join", "--digits", "0", "--rows", "16"];
     for (line, fault) in &BAD_LINES {
-        let told = run(&rt, &WORDS, line)?;
+        let told = run(&rt, &words, line)?;
         let wanted = format!(in alloc; "line 1: {fault}\n")?;
         assert_eq!(rt; told.err.as_str(), wanted.as_str());
         assert_eq!(rt; told.out.as_str(), "");
