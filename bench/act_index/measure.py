@@ -5,7 +5,8 @@ The programs are kept here with .txt appended to each file's name, since the gat
 alone. This copies the crates that they stand on to a folder of its own, with what their checks keep in out/
 where there is any, puts the program beside them, proves and builds it by `rt run`, and runs it.
 
-GEOS and S2 answer the same points and polygons in turn with the index (apt-get install libgeos-dev libs2-dev).
+GEOS and S2 (apt-get install libgeos-dev libs2-dev) and a native program of the same design answer the same points and
+polygons in turn with the index.
 """
 import pathlib
 import shutil
@@ -21,6 +22,7 @@ from listing import listed                      # noqa: E402
 
 USES = 'act_grid act_io act_geom act_base act_index'
 TURNS = 3
+NATIVE = '-O3 -march=x86-64-v2 -std=c++17 -pthread -Wa,-mbranches-within-32B-boundaries'.split()
 
 
 def made(scratch, name):
@@ -63,13 +65,16 @@ def main():
     if '--stress' in sys.argv:
         made(scratch, 'index_stress')
     else:
-        mine, geos, s2, found = made(scratch, 'index_cost'), scratch / 'geos_cost', scratch / 's2_cost', {}
+        mine, found = made(scratch, 'index_cost'), {}
+        geos, s2, native = scratch / 'geos_cost', scratch / 's2_cost', scratch / 'native_cost'
         subprocess.run(['cc', '-O2', '-o', geos, HERE / 'geos_cost.c', '-lgeos_c'], check=True)
         subprocess.run(['g++', '-O2', '-std=c++17', '-o', s2, HERE / 's2_cost.cpp', '-ls2'], check=True)
+        subprocess.run(['g++', *NATIVE, '-o', native, HERE / 'native_cost.cpp'], check=True)
         for _ in range(TURNS):
             cases = [f'{name}={count}' for name, count in told([mine], found, 'index').items()]
             told([geos] + cases, found, 'geos')
             told([s2] + cases, found, 's2')
+            told([native] + cases, found, 'native')
         for (name, how, side), rates in found.items():
             beside = statistics.median(found[name, 'one', 'geos'])
             rate = statistics.median(rates)
