@@ -83,7 +83,7 @@ held_within : (rings : List (List Point)) (held : List Held) → All (IsTrueOf r
     → cells_of (filter (λ (h : Held). is_within h.class) held) ≡ filter (λ (c : Address). is_within (class_at rings c)) (cells_of held)
 held_within rings [] t = refl
 held_within rings (h ∷ held) t =
-    by_case (is_within h.class) (is_within (class_at rings h.cell)) _ _ (ap is_within (sym (All-head (IsTrueOf rings) h held t).class))
+    by_case (is_within h.class) (is_within (class_at rings h.cell)) _ _ (ap is_within (sym (All-head (IsTrueOf rings) h held t)))
     (held_within rings held (All-tail (IsTrueOf rings) h held t))
   where
     by_case : (a b : Bool) (xs : List Held) (ys : List Address) → a ≡ b → cells_of xs ≡ ys → cells_of (cond a (h ∷ xs) xs) ≡ cond b (h.cell ∷ ys) ys

@@ -4,6 +4,3 @@ pub mod Placed
 pub mod Greatest
 pub mod Holding
 pub mod Ascending
-pub mod EdgeFacts
-pub mod Moves
-pub mod NearFacts

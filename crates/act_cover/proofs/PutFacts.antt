@@ -6,8 +6,6 @@ use Rattle.std.proofs.lemmas.List.Concat.{flat_map-append}
 use Rattle.std.proofs.lemmas.List.Elements.{filter-append, All-push}
 use Rattle.act_grid.specs.declared.Point.{Point}
 use Rattle.act_grid.specs.Cell.{Address, root_cell, child_of}
-use Rattle.act_geom.specs.declared.class.Class.{Class}
-use Rattle.act_geom.specs.declared.class.Class.TheVariants.{Inside, Outside, Mixed}
 use Rattle.act_cover.specs.declared.held.Held.{Held}
 use Rattle.act_cover.specs.Covering.{class_at, is_on, cells_on, children_of, refined, cells_at}
 use Rattle.act_cover.specs.Held.{IsTrueOf, IsPut, Puts, IsReached, cells_of}
@@ -109,20 +107,15 @@ next_reached rings most level held new r p = record { cells = p.cells ∙ ap (fl
 
 -- ---- one cell
 
-pub outside_put : (rings : List (List Point)) (most : ℕ) (old : List Held) (c : Address) → class_at rings c ≡ Outside → All (IsTrueOf rings) old
+pub outside_put : (rings : List (List Point)) (most : ℕ) (old : List Held) (c : Address) → is_on (class_at rings c) ≡ false → All (IsTrueOf rings) old
     → IsPut rings most old old (cells_on rings (c ∷ []))
 outside_put rings most old c e t =
-    subst (λ (zs : List Address). IsPut rings most old old zs) (sym (ap (λ (k : Class). cond (is_on k) (c ∷ []) []) e)) (none_put rings most old t)
+    subst (λ (zs : List Address). IsPut rings most old old zs) (sym (ap (λ b. cond b (c ∷ []) []) e)) (none_put rings most old t)
 
-pub on_put : (rings : List (List Point)) (most : ℕ) (old new : List Held) (c : Address) (class : Class) (room : Bool) → class_at rings c ≡ class → (class ≡ Outside → ⊥)
+pub on_put : (rings : List (List Point)) (most : ℕ) (old new : List Held) (c : Address) (room : Bool) → is_on (class_at rings c) ≡ true
     → Puts rings most old new (c ∷ []) room → Puts rings most old new (cells_on rings (c ∷ [])) room
-on_put rings most old new c class room e n p =
-    subst (λ (zs : List Address). Puts rings most old new zs room) (sym (ap (λ (k : Class). cond (is_on k) (c ∷ []) []) e ∙ ap (λ b. cond b (c ∷ []) []) (on class n))) p
-  where
-    on : (k : Class) → (k ≡ Outside → ⊥) → is_on k ≡ true
-    on Inside n = refl
-    on Outside n = absurd (n refl)
-    on Mixed n = refl
+on_put rings most old new c room e p =
+    subst (λ (zs : List Address). Puts rings most old new zs room) (sym (ap (λ b. cond b (c ∷ []) []) e)) p
 
 pub room_left : (rings : List (List Point)) (most : ℕ) (old new : List Held) (cells : List Address) (room : Bool) → Puts rings most old new cells room → room ≡ true → IsPut rings most old new cells
 room_left rings most old new cells room p e = subst (λ (b : Bool). Puts rings most old new cells b) e p

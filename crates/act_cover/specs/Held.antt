@@ -1,17 +1,14 @@
--- Cells that are held with what is known of them.
+-- Cells that are held with their classes.
 use Rattle.std.specs.Prelude.{◌≡◌, ℕ, ◌+◌, ◌<◌, ◌≤◌, Bool, List, ◌++◌, length, map, MatchBool}
 use Rattle.std.specs.List.{All}
 use Rattle.act_grid.specs.declared.Point.{Point}
-use Rattle.act_grid.specs.Cell.{Address, IsCell, hull_of}
+use Rattle.act_grid.specs.Cell.{Address}
 use Rattle.act_cover.specs.declared.held.Held.{Held}
-use Rattle.act_cover.specs.Near.{IsNearIf}
 use Rattle.act_cover.specs.Covering.{class_at, cells_at}
 
--- what is held of a cell is so
-pub record IsTrueOf (rings : List (List Point)) (h : Held) : Type 0 where
-  pub cell : IsCell h.cell
-  pub class : class_at rings h.cell ≡ h.class
-  pub near : IsNearIf rings (hull_of h.cell) h.near
+-- the class that is held of the cell is its class
+abbrev pub IsTrueOf : List (List Point) → Held → Type 0
+IsTrueOf rings h = class_at rings h.cell ≡ h.class
 
 -- the cells that are held
 abbrev pub cells_of : List Held → List Address

@@ -3,4 +3,3 @@ pub mod Level
 pub mod Order
 pub mod Held
 pub mod Lending
-pub mod Near

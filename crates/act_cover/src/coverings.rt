@@ -8,10 +8,11 @@ ghost use Rattle.act_cover.specs.Level.{level_of, covering_of, interior_of};
 ghost use Rattle.act_cover.specs.Held.{IsReached, cells_of};
 
 use crate::cells::Cells;
+use crate::classes::Classes;
 use crate::frontier::Frontier;
 use crate::held::Held;
 use crate::refine::{put_all, put_root};
-use act_geom::{Class, Shape};
+use act_geom::Class;
 use act_grid::{Cell, NoMemory};
 use std::alloc::{AllocError, Global};
 
@@ -27,22 +28,22 @@ struct Reached {
 
 /// The greatest level up to 28 such that each level from 0 to it has at most so many cells.
 ///
-/// It takes no memory, and some 100 KB of stack. At each level it looks at the four children of each Mixed
-/// cell: of a shape with one ring at the edges of the cell's run, else at each edge at most twice.
-pub fn cover_level(shape: &Shape, cells: u32) -> u32
+/// It takes no memory, and some 50 KB of stack. At each level it asks for the class of the four children of
+/// each Mixed cell, until the cells exceed the budget: one question a cell.
+pub fn cover_level<S: Classes>(shape: &S, cells: u32) -> u32
     requires least { 1 ≤ cells }
     requires most { cells ≤ 1024 }
-    ensures { result ≡ level_of shape.now cells }
+    ensures { result ≡ level_of (S.rings shape.now) cells }
 {
     reach(shape, cells as usize).level
 }
 
 /// The covering of the shape by so many cells at most: the cells of the level that `cover_level` tells, by
 /// ascending ids. It costs what `cover_level` does.
-pub fn covering(alloc: Global, shape: &Shape, cells: u32) -> Result<Cells, NoMemory>
+pub fn covering<S: Classes>(alloc: Global, shape: &S, cells: u32) -> Result<Cells, NoMemory>
     requires least { 1 ≤ cells }
     requires most { cells ≤ 1024 }
-    ensures { IfOk result (λ covering. covering ≡ covering_of shape.now cells) }
+    ensures { IfOk result (λ covering. covering ≡ covering_of (S.rings shape.now) cells) }
 {
     let reached = reach(shape, cells as usize);
     let items = all_cells(alloc, reached.cells.as_slice())?;
@@ -50,10 +51,10 @@ pub fn covering(alloc: Global, shape: &Shape, cells: u32) -> Result<Cells, NoMem
 }
 
 /// The cells of the covering that are Inside, by ascending ids. It costs what `cover_level` does.
-pub fn interior(alloc: Global, shape: &Shape, cells: u32) -> Result<Cells, NoMemory>
+pub fn interior<S: Classes>(alloc: Global, shape: &S, cells: u32) -> Result<Cells, NoMemory>
     requires least { 1 ≤ cells }
     requires most { cells ≤ 1024 }
-    ensures { IfOk result (λ interior. interior ≡ interior_of shape.now cells) }
+    ensures { IfOk result (λ interior. interior ≡ interior_of (S.rings shape.now) cells) }
 {
     let reached = reach(shape, cells as usize);
     let items = inside_cells(alloc, reached.cells.as_slice())?;
@@ -61,11 +62,11 @@ pub fn interior(alloc: Global, shape: &Shape, cells: u32) -> Result<Cells, NoMem
 }
 
 // Goes down level by level while the cells fit the budget.
-fn reach(shape: &Shape, most: usize) -> Reached
+fn reach<S: Classes>(shape: &S, most: usize) -> Reached
     requires least { 1 ≤ most }
     requires most { most ≤ 1024 }
-    ensures level { result.level ≡ level_of shape.now most }
-    ensures cells { IsReached shape.now result.level result.cells }
+    ensures level { result.level ≡ level_of (S.rings shape.now) most }
+    ensures cells { IsReached (S.rings shape.now) result.level result.cells }
 {
     let mut cells = Frontier::new();
     put_root(shape, &mut cells);

@@ -35,7 +35,6 @@ impl Frontier {
         let blank = Held {
             cell: Cell::root(),
             class: Class::Outside,
-            near: None,
         };
         Frontier {
             held: [blank; MOST_CELLS],

@@ -5,7 +5,9 @@
 //! is the greatest up to 28 such that each level from 0 to it has at most so many cells.
 //!
 //! The layers above use one contract: `covering` answers `covering_of` of the rings and the budget, whose
-//! cells hold each point inside the shape, and whose Inside cells hold only such points.
+//! cells hold each point inside the shape, and whose Inside cells hold only such points. Who tells how the shape
+//! lies on a cell is a parameter: a `Shape` does it from all its edges, and a caller that keeps more may do it
+//! from fewer.
 //!
 //! ```text
 //! let cells = covering(alloc, &shape, 64)?; // at most 64 cells, by ascending ids
@@ -14,15 +16,16 @@
 #![tactic(auto)]
 
 mod cells;
+mod classes;
 mod coverings;
 mod frontier;
 mod held;
 mod laws;
-mod near;
 mod refine;
 #[cfg(test)]
 mod tests;
 
 pub use cells::Cells;
+pub use classes::Classes;
 pub use coverings::{cover_level, covering, interior};
 pub use laws::{covering_holds_the_inside, ids_ascend, interior_is_inside, level_is_the_greatest};

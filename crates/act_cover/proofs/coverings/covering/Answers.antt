@@ -5,6 +5,6 @@ use Rattle.act_cover.proofs.LevelFacts.{covering_held}
 use Rattle.act_cover.proofs.coverings.covering.Goals as goal
 
 pub returns : goal.returns
-returns c =
+returns g c =
     c.from_vec.ensures ∙ c.in_ok-items.ensures ∙ ap (λ (held : List Held). cells_of held) c.as_slice.ensures
-    ∙ covering_held c.args.shape.now c.args.cells c.reach-reached.result.level c.reach-reached.result.cells c.reach-reached.ensures.level c.reach-reached.ensures.cells
+    ∙ covering_held (g.S.Classes.rings c.args.shape.now) c.args.cells c.reach-reached.result.level c.reach-reached.result.cells c.reach-reached.ensures.level c.reach-reached.ensures.cells

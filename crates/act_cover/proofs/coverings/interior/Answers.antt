@@ -7,6 +7,6 @@ use Rattle.act_cover.proofs.LevelFacts.{interior_held}
 use Rattle.act_cover.proofs.coverings.interior.Goals as goal
 
 pub returns : goal.returns
-returns c =
+returns g c =
     c.from_vec.ensures ∙ c.in_ok-items.ensures ∙ ap (λ (held : List Held). cells_of (filter (λ (h : Held). is_within h.class) held)) c.as_slice.ensures
-    ∙ interior_held c.args.shape.now c.args.cells c.reach-reached.result.level c.reach-reached.result.cells c.reach-reached.ensures.level c.reach-reached.ensures.cells
+    ∙ interior_held (g.S.Classes.rings c.args.shape.now) c.args.cells c.reach-reached.result.level c.reach-reached.result.cells c.reach-reached.ensures.level c.reach-reached.ensures.cells

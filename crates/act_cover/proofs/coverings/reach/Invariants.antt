@@ -5,4 +5,4 @@ use Rattle.act_cover.proofs.coverings.reach.Given as goal
 
 -- the cells of the level are held, and the levels to it fit
 abbrev pub invariant-loop-level : goal.invariant-loop-level
-invariant-loop-level l = record { reached : IsReached l.shape l.level l.cells; fits : fits_to l.shape l.most l.level ≡ true }
+invariant-loop-level g l = record { reached : IsReached (g.S.Classes.rings l.shape) l.level l.cells; fits : fits_to (g.S.Classes.rings l.shape) l.most l.level ≡ true }

@@ -1,10 +1,13 @@
-use Rattle.std.proofs.Common.{◌∙◌}
+use Rattle.std.proofs.Common.{ap, sym, ◌∙◌}
+use Rattle.act_cover.specs.Covering.{is_on}
 use Rattle.act_cover.proofs.PutFacts.{outside_put, on_put}
 use Rattle.act_cover.proofs.refine.put.Goals as goal
 
-pub returns-in-Outside : goal.returns-in-Outside
-returns-in-Outside c = outside_put c.args.shape.now c.args.most c.args.next.now c.args.held.cell (c.requires.is.class ∙ c.in-Outside.is) c.requires.held
+pub returns-then-not-is_on : goal.returns-then-not-is_on
+returns-then-not-is_on g c =
+    outside_put (g.S.Classes.rings c.args.shape.now) c.args.most c.args.next.now c.args.cell (ap is_on (sym c.class_at-class.ensures) ∙ sym c.is_on.ensures ∙ c.if-not-is_on.true) c.requires.held
 
-pub returns-in_default : goal.returns-in_default
-returns-in_default c =
-    on_put c.args.shape.now c.args.most c.args.next.now c.put_held.new.next c.args.held.cell c.args.held.class c.put_held.result c.requires.is.class c.in_default.not-Outside c.put_held.ensures
+pub returns : goal.returns
+returns g c =
+    on_put (g.S.Classes.rings c.args.shape.now) c.args.most c.args.next.now c.put_held.new.next c.args.cell c.put_held.result
+    (ap is_on (sym c.class_at-class.ensures) ∙ sym c.is_on.ensures ∙ c.if-not-is_on.false) c.put_held.ensures

@@ -6,4 +6,4 @@ use Rattle.act_cover.proofs.refine.put_all.Given as goal
 
 -- what the cells so far give way to is put
 abbrev pub invariant-loop-held : goal.invariant-loop-held
-invariant-loop-held l = IsPut l.shape l.most [] l.next (flat_map (refined l.shape) (cells_of (take l.held-index l.now)))
+invariant-loop-held g l = IsPut (g.S.Classes.rings l.shape) l.most [] l.next (flat_map (refined (g.S.Classes.rings l.shape)) (cells_of (take l.held-index l.now)))

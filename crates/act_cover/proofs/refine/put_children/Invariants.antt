@@ -5,4 +5,4 @@ use Rattle.act_cover.proofs.refine.put_children.Given as goal
 
 -- the children so far are put
 abbrev pub invariant-loop-q : goal.invariant-loop-q
-invariant-loop-q l = IsPut l.shape l.most l.initial.next l.next (cells_on l.shape (take l.q (children_of l.parent.cell)))
+invariant-loop-q g l = IsPut (g.S.Classes.rings l.shape) l.most l.initial.next l.next (cells_on (g.S.Classes.rings l.shape) (take l.q (children_of l.parent)))

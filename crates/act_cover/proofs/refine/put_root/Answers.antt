@@ -7,7 +7,8 @@ use Rattle.act_cover.proofs.PutFacts.{root_reached}
 use Rattle.act_cover.proofs.refine.put_root.Goals as goal
 
 pub returns : goal.returns
-returns c =
-    root_reached c.args.shape.now c.put.new.next c.put.result
-    (subst (λ (old : List Held). Puts c.args.shape.now 1 old c.put.new.next (cells_on c.args.shape.now (root_cell ∷ [])) c.put.result) c.requires.empty
-    (subst (λ (d : Address). Puts c.args.shape.now 1 c.args.cells.now c.put.new.next (cells_on c.args.shape.now (d ∷ [])) c.put.result) c.held_root.ensures.cell c.put.ensures))
+returns g c =
+    let rings = g.S.Classes.rings c.args.shape.now in
+    root_reached rings c.put.new.next c.put.result
+    (subst (λ (old : List Held). Puts rings 1 old c.put.new.next (cells_on rings (root_cell ∷ [])) c.put.result) c.requires.empty
+    (subst (λ (d : Address). Puts rings 1 c.args.cells.now c.put.new.next (cells_on rings (d ∷ [])) c.put.result) c.root.ensures c.put.ensures))
