@@ -10,7 +10,7 @@ ghost use Rattle.act_super.specs.Frames.{IsFrame};
 
 use crate::blocks::Blocks;
 use crate::frame::{frame_of, is_apart, is_around};
-use act_cover::cover_level;
+use act_cover::{Classes, cover_level};
 use act_geom::{Class, Shape};
 use act_grid::{Cell, Hull, Point};
 
@@ -26,8 +26,8 @@ pub(crate) struct Standing {
 }
 
 impl Standing {
-    /// The shape with what is kept beside it, its edges in blocks being given, for a budget of so many cells. It costs
-    /// what `cover_level` does.
+    /// The shape with what is kept beside it, its edges in blocks being given, for a budget of so many cells. It looks at
+    /// each vertex once for the box, and the cells that `cover_level` asks about are classed by `class_on`.
     pub fn new(shape: Shape, blocks: Blocks, cells: u32) -> Standing
         requires blocks { blocks ≡ edges_of shape }
         requires least { 1 ≤ cells }
@@ -35,14 +35,15 @@ impl Standing {
         ensures shape { result.shape ≡ shape }
         ensures level { result.level ≡ level_of shape cells }
     {
-        let level = cover_level(&shape, cells);
         let frame = frame_of(&shape);
-        Standing {
+        let mut zone = Standing {
             shape,
-            level,
+            level: 0,
             frame,
             blocks,
-        }
+        };
+        zone.level = cover_level(&zone, cells);
+        zone
     }
 
     /// How the shape lies on the cell, whose hull is given. A cell apart from the box or around it takes constant time, and
@@ -70,5 +71,13 @@ impl Standing {
             return false;
         }
         self.blocks.hold(p)
+    }
+}
+
+impl Classes for Standing {
+    ghost rings = { λ s. s.shape };
+
+    fn class_at(&self, cell: Cell) -> Class {
+        self.class_on(cell, cell.hull())
     }
 }
