@@ -19,4 +19,5 @@ pub mod FinishFacts
 pub mod SweepFacts
 pub mod TraceFacts
 pub mod OrderFacts
+pub mod KeyFacts
 pub mod ResolveFacts

@@ -4,3 +4,4 @@ pub mod Ways
 pub mod Groups
 pub mod Batches
 pub mod Sweeps
+pub mod Orders

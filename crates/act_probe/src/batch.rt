@@ -202,6 +202,6 @@ pub fn probe_batch<W: Words, L: Ledger>(
     ensures bound { buffers.new.found.reads < 2 ^ 48 }
 {
     gather(words, root, points, &layers, buffers, steps)?;
-    finish(words, &mut buffers.found, steps);
+    finish(words, &mut buffers.found, steps)?;
     Ok(buffers.found.reads)
 }

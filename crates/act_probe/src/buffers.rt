@@ -34,6 +34,9 @@ pub(crate) struct Found {
     /// Whether the pair at the same place is one of the answer.
     pub kept: Vec<bool>,
     pub candidates: Vec<Candidate>,
+    /// What brings the candidates into their order.
+    pub keys: Vec<u64>,
+    pub spare: Vec<Candidate>,
     /// How many words were read.
     pub reads: u64,
 }
@@ -53,6 +56,8 @@ impl Buffers {
             hits: Vec::new(alloc),
             kept: Vec::new(alloc),
             candidates: Vec::new(alloc),
+            keys: Vec::new(alloc),
+            spare: Vec::new(alloc),
             reads: 0,
         };
         Buffers {

@@ -23,6 +23,7 @@ mod group;
 mod keys;
 mod list;
 mod meet;
+mod order;
 mod point;
 mod refs;
 mod settle;

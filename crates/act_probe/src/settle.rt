@@ -1,7 +1,6 @@
 //! Candidates are tested, and the pairs of the answer kept.
 
-ghost use Rattle.std.specs.Prelude.{◌≡◌, ℕ, ◌+◌, ◌*◌, ◌<◌, ◌≤◌, ◌^◌, All, Bool, List, length, map, sum_by, take};
-ghost use Rattle.std.specs.List.Sorted.{IsPermutation};
+ghost use Rattle.std.specs.Prelude.{◌≡◌, ℕ, ◌+◌, ◌*◌, ◌<◌, ◌≤◌, ◌^◌, All, Bool, List, OnOk, length, map, sum_by, take};
 ghost use Rattle.act_grid.specs.declared.Layers.{Layers};
 ghost use Rattle.act_grid.specs.declared.Point.{Point};
 ghost use Rattle.act_grid.specs.declared.Settings.{Settings};
@@ -13,18 +12,12 @@ ghost use Rattle.act_probe.specs.Sweeps.{Ascends, IsRun, RunsAscend};
 ghost use Rattle.act_probe.specs.Batches.{Asks, Gathers, Settles, answered, chosen, hit_of};
 
 use crate::buffers::{Candidate, Found, Hit};
+use crate::order::order;
 use crate::words::Words;
 use crate::zones::sweep;
 use act_base::Steps;
+use act_grid::NoMemory;
 use std::sync::ledger::Ledger;
-
-/// Brings the candidates of each zone together, by ascending rows of the grid.
-fn order(candidates: &mut Vec<Candidate>)
-    ensures permutation { IsPermutation candidates.old.items candidates.new.items }
-    ensures ascends { RunsAscend candidates.new.items }
-{
-    candidates.sort_unstable_by_key(|c| (c.row, c.point.y));
-}
 
 /// Where the candidates of a zone end that begin at a place.
 fn run_end(candidates: &[Candidate], start: usize) -> usize
@@ -126,21 +119,26 @@ fn compact(hits: &mut Vec<Hit>, kept: &[bool])
 }
 
 /// Tests the candidates, and keeps the pairs of the answer.
-pub(crate) fn finish<W: Words, L: Ledger>(words: &mut W, found: &mut Found, steps: &mut Steps<L>)
+pub(crate) fn finish<W: Words, L: Ledger>(
+    words: &mut W,
+    found: &mut Found,
+    steps: &mut Steps<L>,
+) -> Result<(), NoMemory>
     requires gathers { (settings : Settings) × (state : State) × (layers : Layers) × (points : List Point) × Gathers (W.image words.old) settings state layers points 0 found.old }
     requires room { length found.old.hits.items ≤ 2 ^ 23 }
     requires few { found.old.reads ≤ 2 ^ 23 }
     ensures same { words.new ≡ words.old }
-    ensures hits { (settings : Settings) (state : State) (layers : Layers) (points : List Point) → Gathers (W.image words.old) settings state layers points 0 found.old
-        → map hit_of found.new.hits.items ≡ join layers state.zones points }
+    ensures hits { OnOk result ((settings : Settings) (state : State) (layers : Layers) (points : List Point) → Gathers (W.image words.old) settings state layers points 0 found.old
+        → map hit_of found.new.hits.items ≡ join layers state.zones points) }
     ensures few { (settings : Settings) (state : State) (layers : Layers) (points : List Point) → Gathers (W.image words.old) settings state layers points 0 found.old
         → found.new.reads ≤ sum_by (λ p. reads_of settings state p layers) points }
     ensures room { length found.new.hits.items ≤ length found.old.hits.items }
     ensures ticks { steps.new + found.old.reads ≡ steps.old + found.new.reads }
     ensures bound { found.new.reads < 2 ^ 48 }
 {
-    order(&mut found.candidates);
+    order(&mut found.candidates, &mut found.keys, &mut found.spare)?;
     resolve(words, &mut found.candidates, &mut found.reads, steps);
     keep(&mut found.kept, &found.candidates);
     compact(&mut found.hits, &found.kept);
+    Ok(())
 }

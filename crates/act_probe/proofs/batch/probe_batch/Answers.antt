@@ -7,8 +7,12 @@ finish-requires-clause-gathers g c =
 
 pub returns-clause-hits : goal.returns-clause-hits
 returns-clause-hits g c = λ settings state s.
-    (rw c.gather.ensures.same at c.finish.ensures.hits) settings state c.args.layers c.args.points.now (c.in_ok-gather.ensures.ok settings state s)
+    (rw c.gather.ensures.same at c.in_ok-finish.ensures.hits) settings state c.args.layers c.args.points.now (c.in_ok-gather.ensures.ok settings state s)
 
 pub returns-clause-few : goal.returns-clause-few
 returns-clause-few g c = λ settings state s.
+    (rw c.gather.ensures.same at c.finish.ensures.few) settings state c.args.layers c.args.points.now (c.in_ok-gather.ensures.ok settings state s)
+
+pub returns-in_err-finish-clause-few : goal.returns-in_err-finish-clause-few
+returns-in_err-finish-clause-few g c = λ settings state s.
     (rw c.gather.ensures.same at c.finish.ensures.few) settings state c.args.layers c.args.points.now (c.in_ok-gather.ensures.ok settings state s)
