@@ -1,12 +1,12 @@
 -- Edges that are counted for the candidates of one zone.
-use Rattle.std.proofs.Common.{◌≡◌, ◌≢◌, ◌⊎◌, inl, inr, ℕ, zero, suc, ◌+◌, ◌≤◌, ◌<◌, ◌++◌, Bool, true, false, refl, sym, ap, ◌∙◌, subst, arith, List, [], ◌∷◌, length, map, take, drop, get_or}
-use Rattle.std.specs.Prelude.{ℤ, ◌<ℤ◌, ◌≤ℤ◌, int_lt}
+use Rattle.std.proofs.Common.{◌≡◌, ◌≢◌, ◌⊎◌, inl, inr, ℕ, zero, suc, ◌+◌, ◌≤◌, ◌<◌, ◌++◌, Bool, true, false, refl, sym, ap, ◌∙◌, subst, arith, List, [], ◌∷◌, length, map, take, drop, get_or, pos}
+use Rattle.std.specs.Prelude.{ℤ, ◌-ℤ◌, ◌*ℤ◌, ◌<ℤ◌, ◌≤ℤ◌, int_lt}
 use Rattle.std.proofs.Math.ListN.{set}
 use Rattle.std.proofs.lemmas.Int.{ints}
 use Rattle.std.proofs.lemmas.Simd.{map-map}
 use Rattle.std.proofs.lemmas.List.{get_or_default, length-map, map-append, take-append-drop}
 use Rattle.act_grid.specs.declared.Point.{Point}
-use Rattle.act_geom.specs.Inside.{counts, differ}
+use Rattle.act_geom.specs.Inside.{counts, differ, is_left}
 use Rattle.act_probe.specs.declared.buffers.Candidate.{Candidate}
 use Rattle.act_probe.specs.Sweeps.{Ascends, IsAboveFrom, IsPlacedAt, at_rest, crossed}
 
@@ -68,6 +68,15 @@ is_low x y h = grind (arith, ints)
 
 pub is_high : (x y : ℤ) → int_lt x y ≡ false → y ≤ℤ x
 is_high x y h = grind (arith, ints)
+
+is_less : (x y : ℤ) → int_lt y x ≡ int_lt (pos 0) (x -ℤ y)
+is_less x y = grind (arith, ints)
+
+-- a point left of a way, by the products of distances
+pub less_than : (a b p : Point) (right up across above low high : ℤ) → right ≡ p.x -ℤ a.x → up ≡ b.y -ℤ a.y → across ≡ b.x -ℤ a.x → above ≡ p.y -ℤ a.y
+    → low ≡ right *ℤ up → high ≡ across *ℤ above → int_lt low high ≡ is_left a b p
+less_than a b p right up across above low high one two three four first second =
+    is_less high low ∙ rw (first, second, one, two, three, four) refl
 
 both_above : (p a b : Point) → p.y <ℤ a.y → p.y <ℤ b.y → counts p (record { a = a; b = b }) ≡ false
 both_above p a b low high = rw (is_true p.y a.y low, is_true p.y b.y high) refl

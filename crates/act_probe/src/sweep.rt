@@ -1,24 +1,69 @@
 //! The candidates of one zone, tested by one way over its words.
 
-ghost use Rattle.std.specs.Prelude.{◌≡◌, ℕ, ◌+◌, ◌<◌, ◌≤◌, ◌≤ℤ◌, int_lt, length, map};
-ghost use Rattle.act_geom.specs.Body.{vertex_word};
+ghost use Rattle.std.specs.Prelude.{◌≡◌, ℕ, ◌+◌, ◌<◌, ◌≤◌, ◌-ℤ◌, ◌*ℤ◌, ◌<ℤ◌, ◌≤ℤ◌, int_lt, length, map};
+ghost use Rattle.act_geom.specs.Inside.{is_left};
 ghost use Rattle.act_probe.specs.Sweeps.{Ascends, IsAboveFrom, IsPlacedAt, at_rest, crossed};
 
 use crate::buffers::Candidate;
-use act_geom::edge_counts;
 use act_grid::Point;
 
-/// Counts an edge for a candidate.
+/// How far one number is above another one.
 #[inline]
-fn flip(candidate: &mut Candidate, a: Point, b: Point)
+fn difference(from: i32, to: i32) -> i64
+    ensures { result ≡ to -ℤ from }
+{
+    i64::from(to) - i64::from(from)
+}
+
+/// A product, which 128 bits always hold.
+#[inline]
+fn product(a: i64, b: i64) -> i128
+    ensures { result ≡ a *ℤ b }
+{
+    i128::from(a) * i128::from(b)
+}
+
+#[inline]
+fn is_below(a: i128, b: i128) -> bool
+    ensures { result ≡ int_lt a b }
+{
+    a < b
+}
+
+/// Whether a point lies on the left of the way from `a` to `b`. No branch hangs on the coordinates: it would often be
+/// guessed wrong.
+#[inline]
+fn is_left(a: Point, b: Point, p: Point) -> bool
+    ensures { result ≡ is_left a b p }
+{
+    let right = product(difference(a.x, p.x), difference(a.y, b.y));
+    let left = product(difference(a.x, b.x), difference(a.y, p.y));
+    is_below(right, left)
+}
+
+/// Counts an edge up from `a` to `b` for a candidate between the rows of its ends.
+#[inline]
+fn flip_up(candidate: &mut Candidate, a: Point, b: Point)
+    requires above { a.y ≤ℤ candidate.old.point.y }
+    requires below { candidate.old.point.y <ℤ b.y }
     ensures { candidate.new ≡ crossed a b candidate.old }
 {
-    candidate.odd = candidate.odd != edge_counts(a, b, candidate.point);
+    candidate.odd ^= is_left(a, b, candidate.point);
+}
+
+/// Counts an edge down from `a` to `b` for a candidate between the rows of its ends.
+#[inline]
+fn flip_down(candidate: &mut Candidate, a: Point, b: Point)
+    requires above { b.y ≤ℤ candidate.old.point.y }
+    requires below { candidate.old.point.y <ℤ a.y }
+    ensures { candidate.new ≡ crossed a b candidate.old }
+{
+    candidate.odd ^= is_left(b, a, candidate.point);
 }
 
 /// Whether a candidate's point lies below the row of a vertex.
 #[inline]
-fn is_below(candidate: &Candidate, v: Point) -> bool
+fn is_under(candidate: &Candidate, v: Point) -> bool
     ensures { result ≡ int_lt candidate.now.point.y v.y }
 {
     candidate.point.y < v.y
@@ -34,8 +79,8 @@ fn rise(run: &mut [Candidate], from: usize, a: Point, b: Point) -> usize
     ensures placed { IsPlacedAt b.y result run.new }
 {
     let mut at = from;
-    while at < run.len() && is_below(&run[at], b) {
-        flip(&mut run[at], a, b);
+    while at < run.len() && is_under(&run[at], b) {
+        flip_up(&mut run[at], a, b);
         at += 1;
     }
     at
@@ -50,9 +95,9 @@ fn fall(run: &mut [Candidate], from: usize, a: Point, b: Point) -> usize
     ensures placed { IsPlacedAt b.y result run.new }
 {
     let mut at = from;
-    while at > 0 && !is_below(&run[at - 1], b) {
+    while at > 0 && !is_under(&run[at - 1], b) {
         at -= 1;
-        flip(&mut run[at], a, b);
+        flip_down(&mut run[at], a, b);
     }
     at
 }
@@ -80,7 +125,7 @@ fn seek_up(run: &[Candidate], from: usize, v: Point) -> usize
     ensures { IsAboveFrom v.y result run.now }
 {
     let mut at = from;
-    while at < run.len() && is_below(&run[at], v) {
+    while at < run.len() && is_under(&run[at], v) {
         at += 1;
     }
     at
@@ -93,7 +138,7 @@ fn seek_down(run: &[Candidate], from: usize, v: Point) -> usize
     ensures { IsPlacedAt v.y result run.now }
 {
     let mut at = from;
-    while at > 0 && !is_below(&run[at - 1], v) {
+    while at > 0 && !is_under(&run[at - 1], v) {
         at -= 1;
     }
     at

@@ -17,24 +17,24 @@ loop-at-preserved c =
     let one : c.loop-at.at ≡ c.loop-at.at - 1 + 1 = omega (arith, c.loop-at-test.true) in
     record {
       before = omega (arith, i.before);
-      state = fall_more c.args.a c.args.b c.args.run.now c.loop-at.run c.args.from c.loop-at.at c.requires.down c.requires.ascends c.requires.placed i.before i.state i.above (c.loop-at.at - 1) no_candidate c.flip.new.candidate one c.flip.ensures;
+      state = fall_more c.args.a c.args.b c.args.run.now c.loop-at.run c.args.from c.loop-at.at c.requires.down c.requires.ascends c.requires.placed i.before i.state i.above (c.loop-at.at - 1) no_candidate c.flip_down.new.candidate one c.flip_down.ensures;
       above = fall_above c.args.a c.args.b c.args.run.now c.loop-at.run c.args.from c.loop-at.at c.requires.down c.requires.ascends c.requires.placed i.before i.state i.above (c.loop-at.at - 1) no_candidate one
-          (is_high _ _ (sym c.is_below.ensures ∙ c.if-not-is_below.true));
+          (is_high _ _ (sym c.is_under.ensures ∙ c.if-not-is_under.true));
     }
 
-pub returns-else-not-is_below-clause-crossed : goal.returns-else-not-is_below-clause-crossed
-returns-else-not-is_below-clause-crossed c =
+pub returns-else-not-is_under-clause-crossed : goal.returns-else-not-is_under-clause-crossed
+returns-else-not-is_under-clause-crossed c =
     let i = c.loop-at.invariant in
     let one : c.loop-at.at ≡ c.loop-at.at - 1 + 1 = omega (arith, c.loop-at-test.true) in
     fall_all c.args.a c.args.b c.args.run.now c.loop-at.run c.args.from c.loop-at.at c.requires.down c.requires.ascends c.requires.placed i.before i.state i.above
-    (fall_stop c.args.a c.args.b c.args.run.now c.loop-at.run c.args.from c.loop-at.at c.requires.down c.requires.ascends c.requires.placed i.before i.state i.above (c.loop-at.at - 1) no_candidate one (is_low _ _ (sym c.is_below.ensures ∙ c.if-not-is_below.false)))
+    (fall_stop c.args.a c.args.b c.args.run.now c.loop-at.run c.args.from c.loop-at.at c.requires.down c.requires.ascends c.requires.placed i.before i.state i.above (c.loop-at.at - 1) no_candidate one (is_low _ _ (sym c.is_under.ensures ∙ c.if-not-is_under.false)))
 
-pub returns-else-not-is_below-clause-placed : goal.returns-else-not-is_below-clause-placed
-returns-else-not-is_below-clause-placed c =
+pub returns-else-not-is_under-clause-placed : goal.returns-else-not-is_under-clause-placed
+returns-else-not-is_under-clause-placed c =
     let i = c.loop-at.invariant in
     let one : c.loop-at.at ≡ c.loop-at.at - 1 + 1 = omega (arith, c.loop-at-test.true) in
     fall_placed c.args.a c.args.b c.args.run.now c.loop-at.run c.args.from c.loop-at.at c.requires.down c.requires.ascends c.requires.placed i.before i.state i.above
-    (fall_stop c.args.a c.args.b c.args.run.now c.loop-at.run c.args.from c.loop-at.at c.requires.down c.requires.ascends c.requires.placed i.before i.state i.above (c.loop-at.at - 1) no_candidate one (is_low _ _ (sym c.is_below.ensures ∙ c.if-not-is_below.false)))
+    (fall_stop c.args.a c.args.b c.args.run.now c.loop-at.run c.args.from c.loop-at.at c.requires.down c.requires.ascends c.requires.placed i.before i.state i.above (c.loop-at.at - 1) no_candidate one (is_low _ _ (sym c.is_under.ensures ∙ c.if-not-is_under.false)))
 
 pub returns-after-loop-at-clause-placed : goal.returns-after-loop-at-clause-placed
 returns-after-loop-at-clause-placed c =

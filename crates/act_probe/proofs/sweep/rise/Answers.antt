@@ -19,21 +19,21 @@ loop-at-preserved c =
     record {
       within = omega (arith, inside);
       after = omega (arith, i.after);
-      state = rise_more c.args.a c.args.b c.args.run.now c.loop-at.run c.args.from c.loop-at.at c.requires.up c.requires.ascends c.requires.placed i.within i.after i.state i.below no_candidate c.flip.new.candidate inside c.flip.ensures;
-      below = rise_below c.args.a c.args.b c.args.run.now c.loop-at.run c.args.from c.loop-at.at c.requires.up c.requires.ascends c.requires.placed i.within i.after i.state i.below no_candidate inside (is_low _ _ (sym c.is_below.ensures ∙ c.if-is_below.true));
+      state = rise_more c.args.a c.args.b c.args.run.now c.loop-at.run c.args.from c.loop-at.at c.requires.up c.requires.ascends c.requires.placed i.within i.after i.state i.below no_candidate c.flip_up.new.candidate inside c.flip_up.ensures;
+      below = rise_below c.args.a c.args.b c.args.run.now c.loop-at.run c.args.from c.loop-at.at c.requires.up c.requires.ascends c.requires.placed i.within i.after i.state i.below no_candidate inside (is_low _ _ (sym c.is_under.ensures ∙ c.if-is_under.true));
     }
 
-pub returns-else-is_below-clause-crossed : goal.returns-else-is_below-clause-crossed
-returns-else-is_below-clause-crossed c =
+pub returns-else-is_under-clause-crossed : goal.returns-else-is_under-clause-crossed
+returns-else-is_under-clause-crossed c =
     let i = c.loop-at.invariant in
     rise_all c.args.a c.args.b c.args.run.now c.loop-at.run c.args.from c.loop-at.at c.requires.up c.requires.ascends c.requires.placed i.within i.after i.state i.below
-    (rise_stop c.args.a c.args.b c.args.run.now c.loop-at.run c.args.from c.loop-at.at c.requires.up c.requires.ascends c.requires.placed i.within i.after i.state i.below no_candidate (is_high _ _ (sym c.is_below.ensures ∙ c.if-is_below.false)))
+    (rise_stop c.args.a c.args.b c.args.run.now c.loop-at.run c.args.from c.loop-at.at c.requires.up c.requires.ascends c.requires.placed i.within i.after i.state i.below no_candidate (is_high _ _ (sym c.is_under.ensures ∙ c.if-is_under.false)))
 
-pub returns-else-is_below-clause-placed : goal.returns-else-is_below-clause-placed
-returns-else-is_below-clause-placed c =
+pub returns-else-is_under-clause-placed : goal.returns-else-is_under-clause-placed
+returns-else-is_under-clause-placed c =
     let i = c.loop-at.invariant in
     rise_placed c.args.a c.args.b c.args.run.now c.loop-at.run c.args.from c.loop-at.at c.requires.up c.requires.ascends c.requires.placed i.within i.after i.state i.below
-    (rise_stop c.args.a c.args.b c.args.run.now c.loop-at.run c.args.from c.loop-at.at c.requires.up c.requires.ascends c.requires.placed i.within i.after i.state i.below no_candidate (is_high _ _ (sym c.is_below.ensures ∙ c.if-is_below.false)))
+    (rise_stop c.args.a c.args.b c.args.run.now c.loop-at.run c.args.from c.loop-at.at c.requires.up c.requires.ascends c.requires.placed i.within i.after i.state i.below no_candidate (is_high _ _ (sym c.is_under.ensures ∙ c.if-is_under.false)))
 
 pub returns-after-loop-at-clause-placed : goal.returns-after-loop-at-clause-placed
 returns-after-loop-at-clause-placed c =
