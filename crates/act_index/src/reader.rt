@@ -294,7 +294,8 @@ impl Reader {
     /// that version, too. The gate is called at `Bound` with the version, and at `Probed` with the reads, while the
     /// version is held.
     ///
-    /// The points go down in groups, and the candidates of each zone are tested together, its polygon being read once.
+    /// The points go down in groups, and the candidates of each zone are tested together, the polygon of a zone with more
+    /// than a few being read once.
     /// The reader keeps what that takes for its next batch. Beside it memory is taken once, for the pairs of the answer.
     pub fn join<G: Gate, L: Ledger>(
         &mut self,

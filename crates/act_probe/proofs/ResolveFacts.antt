@@ -2,9 +2,10 @@
 use Rattle.std.proofs.Common.{◌≡◌, ℕ, zero, suc, ◌+◌, ◌-◌, ◌≤◌, ◌<◌, ◌++◌, sym, ap, ◌∙◌, subst, arith, List, length, map, take, drop, get_or}
 use Rattle.std.specs.Prelude.{◌≤ℤ◌, sum_by}
 use Rattle.std.specs.List.{All}
+use Rattle.std.proofs.Math.ListN.{set}
 use Rattle.std.proofs.Math.Seq.{take-add}
 use Rattle.std.proofs.lemmas.Int.{ints}
-use Rattle.std.proofs.lemmas.List.{drop-drop, get_or-drop, get_or-take, get_or_default, length-drop, length-map, length-take-le, map-append, take-append-drop, take_at}
+use Rattle.std.proofs.lemmas.List.{drop-drop, drop-set-lt, get_or-drop, get_or-take, get_or_default, length-drop, length-map, length-take-le, map-append, take-append-drop, take_at}
 use Rattle.std.proofs.lemmas.List.Sums.{sum_by-append}
 use Rattle.std.proofs.lemmas.Slice.{drop-put_mid, take-put_mid}
 use borrow.Rule.Slice.PartMut.{put_mid}
@@ -114,3 +115,13 @@ module _ (xs l : List Candidate) (start end : ℕ) (before : start < end) (withi
         ∙ sym (map-append f (take start xs) (take (end - start) (drop start xs))) ∙ ap (map f) (sym joined)
         )
         ∙ ap (λ (z : List Candidate). map f (take end xs) ++ z) new_rest
+
+-- a candidate that stands as it stood
+pub unchanged : (xs l : List Candidate) (i : ℕ) (d : Candidate) → drop i l ≡ drop i xs → get_or l i d ≡ get_or xs i d
+unchanged xs l i d rest =
+    let e : i ≡ i + 0 = omega arith in
+    ap (λ n. get_or l n d) e ∙ sym (get_or-drop i l 0 d) ∙ ap (λ (z : List Candidate). get_or z 0 d) rest ∙ get_or-drop i xs 0 d ∙ ap (λ n. get_or xs n d) (sym e)
+
+-- those behind it stay
+pub rest_stays : (xs l : List Candidate) (i : ℕ) (c : Candidate) → drop i l ≡ drop i xs → drop (i + 1) (set l i c) ≡ drop (i + 1) xs
+rest_stays xs l i c rest = drop-set-lt (i + 1) l i c (omega arith) ∙ sym (drop-drop 1 i l) ∙ ap (drop 1) rest ∙ drop-drop 1 i xs

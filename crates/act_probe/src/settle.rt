@@ -12,12 +12,17 @@ ghost use Rattle.act_probe.specs.Sweeps.{Ascends, IsRun, RunsAscend};
 ghost use Rattle.act_probe.specs.Batches.{Asks, Gathers, Settles, answered, chosen, hit_of};
 
 use crate::buffers::{Candidate, Found, Hit};
+use crate::chain::test;
 use crate::order::order;
 use crate::words::Words;
 use crate::zones::sweep;
 use act_base::Steps;
 use act_grid::NoMemory;
 use std::sync::ledger::Ledger;
+
+/// So few candidates of a zone are sooner tested one by one: which of an edge's ends lies higher, as a way over the words
+/// for all of them asks, is guessed wrong more often than on which side of one row they lie.
+const FEW: usize = 4;
 
 /// Where the candidates of a zone end that begin at a place.
 fn run_end(candidates: &[Candidate], start: usize) -> usize
@@ -34,7 +39,31 @@ fn run_end(candidates: &[Candidate], start: usize) -> usize
     end
 }
 
-/// Tests the candidates of a zone.
+/// Tests the candidates of a zone one by one.
+fn test_each<W: Words, L: Ledger>(
+    words: &mut W,
+    run: &mut [Candidate],
+    reads: &mut u64,
+    steps: &mut Steps<L>,
+)
+    requires asks { (zones : ℕ → Zone) × All (λ c. Asks (W.image words.old) (zones c.slot) c) run.old }
+    requires room { reads.old + 699052 * length run.old < 2 ^ 60 }
+    ensures same { words.new ≡ words.old }
+    ensures odd { (zones : ℕ → Zone) → All (λ c. Asks (W.image words.old) (zones c.slot) c) run.old → run.new ≡ map (answered zones) run.old }
+    ensures few { (zones : ℕ → Zone) → All (λ c. Asks (W.image words.old) (zones c.slot) c) run.old
+        → reads.new ≤ reads.old + sum_by (λ c. body_reads (zones c.slot)) run.old }
+    ensures ticks { steps.new + reads.old ≡ steps.old + reads.new }
+    ensures bound { reads.new ≤ reads.old + 699052 * length run.old }
+{
+    for i in 0..run.len() {
+        let c = run[i];
+        let tested = test(words, c.row, c.head, c.point, steps);
+        run[i].odd = tested.inside;
+        *reads += tested.reads;
+    }
+}
+
+/// Tests the candidates of a zone: few of them one by one, and more by one way over the words.
 fn resolve_zone<W: Words, L: Ledger>(
     words: &mut W,
     run: &mut [Candidate],
@@ -45,19 +74,23 @@ fn resolve_zone<W: Words, L: Ledger>(
     requires some { 0 < length run.old }
     requires rows { IsRun run.old 0 (length run.old) }
     requires ascends { Ascends run.old }
-    requires room { reads.old < 2 ^ 60 }
+    requires room { reads.old + 699052 * length run.old < 2 ^ 60 }
     ensures same { words.new ≡ words.old }
     ensures odd { (zones : ℕ → Zone) → All (λ c. Asks (W.image words.old) (zones c.slot) c) run.old → run.new ≡ map (answered zones) run.old }
     ensures few { (zones : ℕ → Zone) → All (λ c. Asks (W.image words.old) (zones c.slot) c) run.old
         → reads.new ≤ reads.old + sum_by (λ c. body_reads (zones c.slot)) run.old }
     ensures ticks { steps.new + reads.old ≡ steps.old + reads.new }
-    ensures bound { reads.new ≤ reads.old + 699052 }
+    ensures bound { reads.new ≤ reads.old + 699052 * length run.old }
 {
+    if run.len() <= FEW {
+        test_each(words, run, reads, steps);
+        return;
+    }
     let first = run[0];
     sweep(words, first.row, first.head, run, reads, steps);
 }
 
-/// Tests the candidates, zone by zone. Each zone's words are read once.
+/// Tests the candidates, zone by zone. The words of a zone with more than a few are read once.
 fn resolve<W: Words, L: Ledger>(
     words: &mut W,
     candidates: &mut [Candidate],
