@@ -1,11 +1,11 @@
 -- What is gathered for one point more.
-use Rattle.std.proofs.Common.{◌≡◌, ℕ, suc, ◌+◌, ◌≤◌, ◌++◌, Bool, true, false, ◌&&◌, ◌||◌, cond, refl, sym, ap, ◌∙◌, arith, List, [], ◌∷◌, append_assoc, append-nil, length, map, filter, take, get_or, ◌<◌}
+use Rattle.std.proofs.Common.{◌≡◌, ℕ, zero, suc, ◌+◌, ◌/◌, ◌==◌, ◌≤◌, ◌++◌, Bool, true, false, ◌&&◌, ◌||◌, cond, refl, sym, ap, ◌∙◌, arith, List, [], ◌∷◌, append_assoc, append-nil, length, map, filter, take, get_or, ◌<◌}
 use Rattle.std.specs.Prelude.{sum_by}
 use Rattle.std.specs.List.{All}
 use Rattle.std.proofs.lemmas.List.{length-append, length-map, length-take, map-append, map_push, take_more}
 use Rattle.std.proofs.lemmas.Simd.{map-map}
 use Rattle.std.proofs.lemmas.List.Elements.{filter-append}
-use Rattle.std.proofs.lemmas.List.Sums.{sum_by-append, sum_by_push}
+use Rattle.std.proofs.lemmas.List.Sums.{sum_by-append, sum_by-cons, sum_by_push}
 use Rattle.act_grid.specs.declared.layers.Layers.{Layers}
 use Rattle.act_grid.specs.declared.Point.{Point}
 use Rattle.act_grid.specs.declared.Settings.{Settings}
@@ -25,6 +25,7 @@ use Rattle.act_probe.specs.declared.group.Way.{Way}
 use Rattle.act_probe.specs.Chains.{RefsOf, Tells, found_keys, found_reads}
 use Rattle.act_probe.specs.Reads.{list_reads, reads_of}
 use Rattle.act_probe.specs.Ways.{IsReached, leaf_of}
+use Rattle.act_probe.specs.Groups.{IsDown}
 use Rattle.act_probe.specs.Batches.{Gathers, Holds, Met, hit_of, is_held, met_by, mets_by, pair_of, test_reads}
 use Rattle.act_probe.proofs.FoundFacts.{found_is, reads_are}
 use Rattle.act_probe.proofs.GroupFacts.{no_way}
@@ -116,11 +117,29 @@ module _ {settings : Settings} {x : Sight} {root : ℕ} {state : State} (s : Sta
   pub few_here : (old new : ℕ) → new ≤ old + list_reads (length leaf_refs) + length leaf_refs → new + nodes ≤ old + reads_of settings state p layers
   few_here old new few = omega (arith, few, words_here, reads_here)
 
+-- a word or more is read for each point
+some_read : (settings : Settings) (state : State) (layers : Layers) (p : Point) → 1 ≤ reads_of settings state p layers
+unfolding reads_of
+some_read settings state layers p = omega (arith, some_nodes (leaf_of settings state p).level)
+  where
+    some_nodes : (level : ℕ) → 1 ≤ cond (level == 0) 1 ((level + 3) / 4)
+    some_nodes zero = omega arith
+    some_nodes (suc level) = many (suc level == 0) refl
+      where
+        many : (b : Bool) → (suc level == 0) ≡ b → 1 ≤ cond b 1 ((suc level + 3) / 4)
+        many true is = omega arith
+        many false is = omega arith
+
+pub each_read : (settings : Settings) (state : State) (layers : Layers) (points : List Point) → length points ≤ sum_by (λ p. reads_of settings state p layers) points
+each_read settings state layers [] = omega arith
+each_read settings state layers (p ∷ points) =
+    omega (arith, some_read settings state layers p, each_read settings state layers points, sum_by-cons (λ q. reads_of settings state q layers) p points)
+
 -- ---- the ways of a group
 module _ {settings : Settings} {x : Sight} {root : ℕ} {state : State} (s : Stands settings x root state) (layers : Layers) (ways : List Way)
-    (all : All (λ (way : Way). IsReached settings state s.layout way.point way.entry way.nodes) ways) where
+    (all : All (IsDown settings state s.layout) ways) where
   pub nodes_few : All (λ (way : Way). way.nodes ≤ reads_of settings state way.point layers) ways
-  nodes_few k d within = omega (arith, reads_here s layers 0 (get_or ways k d).point (get_or ways k d).entry (get_or ways k d).nodes (all k d within))
+  nodes_few k d within = omega (arith, reads_here s layers 0 (get_or ways k d).point (all k d within).entry (get_or ways k d).nodes (all k d within).reached)
 
   abbrev nodes_in : List Way → ℕ
   nodes_in ws = sum_by (λ (way : Way). way.nodes) ws

@@ -1,64 +1,92 @@
 -- One step of a way down, and the ways of several points.
-use Rattle.std.proofs.Common.{◌≡◌, ℕ, ◌+◌, ◌*◌, ◌/◌, ◌<◌, ◌≤◌, true, Option, Some, None, is_some, pos, refl, sym, ap, ◌∙◌, subst}
+use Rattle.std.proofs.Common.{◌≡◌, ℕ, ◌+◌, ◌*◌, ◌/◌, ◌%◌, ◌-◌, ◌^◌, ◌<◌, ◌≤◌, Option, Some, None, pos, refl, sym, ap, ◌∙◌, subst, arith}
+use Rattle.std.proofs.lemmas.Option.{same_Some}
+use Rattle.act_grid.specs.declared.Point.{Point}
 use Rattle.act_grid.specs.declared.Settings.{Settings}
+use Rattle.act_grid.specs.Cell.{root_cell}
 use Rattle.act_base.specs.Counting.{times}
 use Rattle.act_base.specs.Sight.{Sight}
 use Rattle.act_entry.specs.declared.entry.Entry.{Entry}
 use Rattle.act_entry.specs.Entries.{entry_of}
 use Rattle.act_super.specs.declared.entry.State.{State}
 use Rattle.act_super.specs.Nodes.{IsNode}
-use Rattle.act_super.specs.Stands.{Stands, entry_at}
-use Rattle.act_entry.specs.declared.entry.Entry.TheVariants as entry
+use Rattle.act_super.specs.Stands.{Layout, Stands, entry_at}
 use Rattle.act_probe.specs.declared.group.Way.{Way}
-use Rattle.act_probe.specs.Groups.{Begins, Goes, HasRead, IsOn, IsPast}
-use Rattle.act_probe.specs.Ways.{IsReached, child_in, over}
+use Rattle.act_probe.specs.Groups.{Goes, IsDown, IsOn}
+use Rattle.act_probe.specs.Ways.{IsReached, IsTop, child_in, over}
 use Rattle.act_probe.proofs.EntryFacts.{goes_down, is_there, no_eighth, read_entry, root_node, root_over}
 use Rattle.act_probe.proofs.StandFacts.{held_node}
 use Rattle.act_probe.proofs.WayFacts.{entry_on}
 
 -- what stands behind the last way of a list
 abbrev pub no_way : Way
-no_way = record { point = record { x = pos 0; y = pos 0 }; entry = entry.Empty; nodes = 0; id = 0; word = 0 }
+no_way = record { point = record { x = pos 0; y = pos 0 }; nodes = 0; word = 0; id = 0 }
 
-module _ {settings : Settings} {x : Sight} {root : ℕ} {state : State} (s : Stands settings x root state) (depth : ℕ) (way : Way) where
-  -- the row of the node that is read is of the image
-  pub held_ahead : (row : ℕ) → Goes settings state s.layout depth way → child_in way.entry ≡ Some row → 0 < times x.rows row
-  held_ahead row goes is =
-      let on : IsOn settings state s.layout depth way (Some row) = subst (IsOn settings state s.layout depth way) is goes.on in
-      rw on.0.1 (held_node settings x root state s.served s.layout s.by_rows (over (way.id / 2) (4 * depth)) on.0.0)
-
+module _ {settings : Settings} {x : Sight} {root : ℕ} {state : State} (s : Stands settings x root state) where
   -- the entry on the way
-  abbrev next : Entry
-  next = entry_at s.layout settings state (over (way.id / 2) (4 * depth)) (entry_on (way.id / 2) (4 * depth))
+  abbrev next : ℕ → ℕ → Entry
+  next id depth = entry_at s.layout settings state (over (id / 2) (4 * depth)) (entry_on (id / 2) (4 * depth))
 
-  pub gone : (entry : Entry) → depth ≤ 6 → HasRead x settings state s.layout depth way → is_some (child_in way.entry) ≡ true → ((e : Entry) → entry_of way.word ≡ Some e → entry ≡ e)
-      → Goes settings state s.layout (depth + 1) (record way { entry = entry })
-  gone entry few read some is = record { top = read.top; on = by (child_in way.entry) some read.past }
+  -- the word of a node was read
+  pub came : (p : Point) (id depth row place word : ℕ) → IsTop id p → depth ≤ 6 → IsNode settings state (over (id / 2) (4 * depth)) → row ≡ s.layout.node (over (id / 2) (4 * depth))
+      → place ≡ id / 2 ^ (53 - 2 * (4 * depth)) % 256 → word ≡ x.word row place → Goes settings state s.layout (depth + 1) (record { point = p; nodes = depth + 1; word = word; id = id })
+  came p id depth row place word top few node row_is place_is is = record {
+    top = top;
+    entry = next id depth;
+    word = read_entry s p id depth row place word top few node row_is place_is is;
+    on = there (child_in (next id depth)) refl;
+  }
     where
-      there : (node : IsNode settings state (over (way.id / 2) (4 * depth))) → way.nodes ≡ depth + 1 → entry ≡ next → (o : Option ℕ) → child_in next ≡ o
-          → IsOn settings state s.layout (depth + 1) (record way { entry = entry }) o
-      there node count same (Some below) e = (goes_down settings x root state s.served s.layout s.by_rows way.point way.id read.top depth few node below e, count)
-      there node count same None e = rw (same, count) (is_there settings x root state s.served s.layout s.by_rows way.point way.id read.top depth few node e)
+      there : (o : Option ℕ) → child_in (next id depth) ≡ o → IsOn settings state s.layout (depth + 1) (record { point = p; nodes = depth + 1; word = word; id = id }) (next id depth) o
+      there (Some below) e = let on = goes_down settings x root state s.served s.layout s.by_rows p id top depth few node below e in (on.0, on.1, refl)
+      there None e = is_there settings x root state s.served s.layout s.by_rows p id top depth few node e
 
-      by : (o : Option ℕ) → is_some o ≡ true → IsPast x settings state s.layout depth way o → IsOn settings state s.layout (depth + 1) (record way { entry = entry }) (child_in entry)
-      by (Some row) some past =
-          let told = read_entry s way.point way.id depth row _ way.word read.top few past.0.0 past.0.1 refl past.2 in
-          let same : entry ≡ next = is next told in
-          there past.0.0 past.1 same (child_in entry) (sym (ap child_in same))
-      by None some past = absurd (cc)
+  -- the root node is of the image, and each way begins with a word of it
+  pub held_root : 0 < times x.rows root
+  held_root = rw s.by_rows.top at (held_node settings x root state s.served s.layout s.by_rows root_cell (root_node settings state))
 
-  -- a way begins at the root node
-  pub begun : Begins root way → Goes settings state s.layout 0 way
-  begun b =
-      let top = root_over way.point way.id b.top in
-      let node : IsNode settings state (over (way.id / 2) (4 * 0)) = subst (IsNode settings state) (sym top) (root_node settings state) in
-      let row : root ≡ s.layout.node (over (way.id / 2) (4 * 0)) = sym s.by_rows.top ∙ ap s.layout.node (sym top) in
-      record { top = b.top; on = subst (IsOn settings state s.layout 0 way) (sym (ap child_in b.entry)) ((node, row), b.none) }
+  pub begun : (p : Point) (id place word : ℕ) → IsTop id p → place ≡ id / 2 ^ (53 - 2 * 0) % 256 → word ≡ x.word root place
+      → Goes settings state s.layout 1 (record { point = p; nodes = 1; word = word; id = id })
+  begun p id place word top place_is is =
+      let over_root = root_over p id top in
+      came p id 0 root place word top (omega arith) (subst (IsNode settings state) (sym over_root) (root_node settings state)) (sym s.by_rows.top ∙ ap s.layout.node (sym over_root)) place_is is
 
-  -- and no way has an eighth node
-  pub ended : 4 * depth ≡ 28 → Goes settings state s.layout depth way → IsReached settings state s.layout way.point way.entry way.nodes
-  ended eighth goes = by (child_in way.entry) goes.on
-    where
-      by : (o : Option ℕ) → IsOn settings state s.layout depth way o → IsReached settings state s.layout way.point way.entry way.nodes
-      by (Some row) on = absurd (no_eighth settings state (way.id / 2) (rw eighth at on.0.0))
-      by None on = on
+  module _ (depth : ℕ) (way : Way) where
+    -- the row of the node ahead is of the image
+    pub held_ahead : (row : ℕ) → (goes : Goes settings state s.layout depth way) → child_in goes.entry ≡ Some row → (0 < times x.rows row) × (way.nodes ≡ depth)
+    held_ahead row goes is =
+        let on : IsOn settings state s.layout depth way goes.entry (Some row) = subst (IsOn settings state s.layout depth way goes.entry) is goes.on in
+        (rw on.1 (held_node settings x root state s.served s.layout s.by_rows (over (way.id / 2) (4 * depth)) on.0), on.2)
+
+    pub gone : (row place word : ℕ) → depth ≤ 6 → (goes : Goes settings state s.layout depth way) → child_in goes.entry ≡ Some row → place ≡ way.id / 2 ^ (53 - 2 * (4 * depth)) % 256
+        → word ≡ x.word row place → Goes settings state s.layout (depth + 1) (record way { nodes = way.nodes + 1; word = word })
+    gone row place word few goes is place_is told =
+        let on : IsOn settings state s.layout depth way goes.entry (Some row) = subst (IsOn settings state s.layout depth way goes.entry) is goes.on in
+        rw on.2 (came way.point way.id depth row place word goes.top few on.0 on.1 place_is told)
+
+    -- a way that has the word of its leaf waits
+    pub waits : (goes : Goes settings state s.layout depth way) → child_in goes.entry ≡ None → Goes settings state s.layout (depth + 1) way
+    waits goes is =
+        let on : IsOn settings state s.layout depth way goes.entry None = subst (IsOn settings state s.layout depth way goes.entry) is goes.on in
+        record { top = goes.top; entry = goes.entry; word = goes.word; on = subst (IsOn settings state s.layout (depth + 1) way goes.entry) (sym is) on }
+
+    -- one that stays the same has come down
+    pub stayed : Goes settings state s.layout depth way → Goes settings state s.layout (depth + 1) way → IsDown settings state s.layout way
+    stayed before after = by (child_in after.entry) after.on (ap child_in (same_Some _ _ (sym before.word ∙ after.word)))
+      where
+        by : (o : Option ℕ) → IsOn settings state s.layout (depth + 1) way after.entry o → child_in before.entry ≡ o → IsDown settings state s.layout way
+        by (Some row) on is = absurd (omega (arith, on.2, (held_ahead row before is).1))
+        by None on is = record { entry = after.entry; word = after.word; reached = on }
+
+    -- and no way has an eighth node
+    pub ended : 4 * depth ≡ 28 → Goes settings state s.layout depth way → IsDown settings state s.layout way
+    ended eighth goes = by (child_in goes.entry) goes.on
+      where
+        by : (o : Option ℕ) → IsOn settings state s.layout depth way goes.entry o → IsDown settings state s.layout way
+        by (Some row) on = absurd (no_eighth settings state (way.id / 2) (rw eighth at on.0))
+        by None on = record { entry = goes.entry; word = goes.word; reached = on }
+
+-- the entry of that word
+pub reached_at : (settings : Settings) (state : State) (layout : Layout) (way : Way) (found : Entry) → ((e : Entry) → entry_of way.word ≡ Some e → found ≡ e) → IsDown settings state layout way
+    → IsReached settings state layout way.point found way.nodes
+reached_at settings state layout way found told down = rw (told down.entry down.word) down.reached

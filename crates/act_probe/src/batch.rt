@@ -7,10 +7,11 @@ ghost use Rattle.act_super.specs.declared.entry.State.{State};
 ghost use Rattle.act_super.specs.Joins.{join};
 ghost use Rattle.act_super.specs.Stands.{Stands};
 ghost use Rattle.act_probe.specs.Reads.{reads_of};
-ghost use Rattle.act_probe.specs.Ways.{IsReached};
+ghost use Rattle.act_probe.specs.Groups.{IsDown};
 ghost use Rattle.act_probe.specs.Batches.{Gathers, hits_in};
 
 use crate::buffers::{Buffers, Found};
+use crate::descent::entry_in;
 use crate::group::{Way, descend_all};
 use crate::meet::meet_entry;
 use crate::settle::finish;
@@ -33,24 +34,23 @@ fn meet_way<W: Words, L: Ledger>(
     found: &mut Found,
     steps: &mut Steps<L>,
 ) -> Result<(), NoMemory>
-    requires reached { (root : ℕ) × (settings : Settings) × (state : State) × (s : Stands settings (W.image words.old) root state)
-        × IsReached settings state s.layout way.now.point way.now.entry way.now.nodes }
+    requires down { (root : ℕ) × (settings : Settings) × (state : State) × (s : Stands settings (W.image words.old) root state)
+        × IsDown settings state s.layout way.now }
     requires room { length found.old.hits.items < 2 ^ 31 }
     requires few { found.old.reads < 2 ^ 59 }
     ensures same { words.new ≡ words.old }
     ensures ok { OnOk result ((root : ℕ) (settings : Settings) (state : State) (s : Stands settings (W.image words.old) root state) (points : List Point) (ahead : ℕ)
-        → IsReached settings state s.layout way.now.point way.now.entry way.now.nodes → length points ≡ place
+        → IsDown settings state s.layout way.now → length points ≡ place
         → Gathers (W.image words.old) settings state layers.now points (way.now.nodes + ahead) found.old
         → Gathers (W.image words.old) settings state layers.now (points ++ way.now.point ∷ []) ahead found.new) }
     ensures few { (root : ℕ) (settings : Settings) (state : State) (s : Stands settings (W.image words.old) root state)
-        → IsReached settings state s.layout way.now.point way.now.entry way.now.nodes → found.new.reads + way.now.nodes ≤ found.old.reads + reads_of settings state way.now.point layers.now }
+        → IsDown settings state s.layout way.now → found.new.reads + way.now.nodes ≤ found.old.reads + reads_of settings state way.now.point layers.now }
     ensures ticks { steps.new + found.old.reads ≡ steps.old + found.new.reads }
     ensures room { OnOk result (length found.new.hits.items ≤ length found.old.hits.items + 510) }
     ensures bound { found.new.reads ≤ found.old.reads + 766 }
 {
-    meet_entry(
-        words, way.entry, place, way.point, layers, refs, found, steps,
-    )?;
+    let entry = entry_in(way.word);
+    meet_entry(words, entry, place, way.point, layers, refs, found, steps)?;
     Ok(())
 }
 
@@ -64,18 +64,18 @@ fn meet_ways<W: Words, L: Ledger>(
     found: &mut Found,
     steps: &mut Steps<L>,
 ) -> Result<(), NoMemory>
-    requires reached { (root : ℕ) × (settings : Settings) × (state : State) × (s : Stands settings (W.image words.old) root state)
-        × All (λ way. IsReached settings state s.layout way.point way.entry way.nodes) ways.now }
+    requires down { (root : ℕ) × (settings : Settings) × (state : State) × (s : Stands settings (W.image words.old) root state)
+        × All (IsDown settings state s.layout) ways.now }
     requires places { first + length ways.now ≤ 8192 }
     requires room { length found.old.hits.items + 510 * length ways.now < 2 ^ 31 }
     requires few { found.old.reads + 766 * length ways.now < 2 ^ 59 }
     ensures same { words.new ≡ words.old }
     ensures ok { OnOk result ((root : ℕ) (settings : Settings) (state : State) (s : Stands settings (W.image words.old) root state) (points : List Point)
-        → All (λ way. IsReached settings state s.layout way.point way.entry way.nodes) ways.now → length points ≡ first
+        → All (IsDown settings state s.layout) ways.now → length points ≡ first
         → Gathers (W.image words.old) settings state layers.now points (sum_by (λ way. way.nodes) ways.now) found.old
         → Gathers (W.image words.old) settings state layers.now (points ++ map (λ way. way.point) ways.now) 0 found.new) }
     ensures few { (root : ℕ) (settings : Settings) (state : State) (s : Stands settings (W.image words.old) root state)
-        → All (λ way. IsReached settings state s.layout way.point way.entry way.nodes) ways.now
+        → All (IsDown settings state s.layout) ways.now
         → found.new.reads + sum_by (λ way. way.nodes) ways.now ≤ found.old.reads + sum_by (λ p. reads_of settings state p layers.now) (map (λ way. way.point) ways.now) }
     ensures ticks { steps.new + found.old.reads ≡ steps.old + found.new.reads }
     ensures room { OnOk result (length found.new.hits.items ≤ length found.old.hits.items + 510 * length ways.now) }

@@ -1,7 +1,9 @@
 //! The way down to the leaf that holds a point.
 
-ghost use Rattle.std.specs.Prelude.{◌≡◌, ◌+◌, ◌*◌, ◌<◌, ◌≤◌, ◌^◌, ◌/◌, ◌%◌, ◌-◌};
+ghost use Rattle.std.specs.Prelude.{◌≡◌, ◌+◌, ◌*◌, ◌<◌, ◌≤◌, ◌^◌, ◌/◌, ◌%◌, ◌-◌, Some};
 ghost use Rattle.act_grid.specs.declared.Settings.{Settings};
+ghost use Rattle.act_entry.specs.declared.entry.Entry.{Entry};
+ghost use Rattle.act_entry.specs.Entries.{entry_of};
 ghost use Rattle.act_super.specs.declared.entry.State.{State};
 ghost use Rattle.act_super.specs.Stands.{Stands};
 ghost use Rattle.act_probe.specs.Ways.{IsReached, IsTop, child_in};
@@ -37,6 +39,17 @@ pub(crate) fn entry_place(id: u64, level: u32) -> u8
     ensures { result ≡ id / 2 ^ (53 - 2 * level) % 256 }
 {
     ((id >> (53 - 2 * level)) % 256) as u8
+}
+
+/// The entry of a word of a node.
+#[inline]
+pub(crate) fn entry_in(word: u64) -> Entry
+    ensures { (e : Entry) → entry_of word ≡ Some e → result ≡ e }
+{
+    match decode(word) {
+        Some(entry) => entry,
+        None => Entry::Empty,
+    }
 }
 
 /// The row of the node that an entry names, where it names one.

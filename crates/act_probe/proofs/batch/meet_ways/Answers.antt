@@ -8,9 +8,9 @@ use Rattle.act_probe.proofs.GroupFacts.{no_way}
 use Rattle.act_probe.proofs.GatherFacts.{few_more, few_stopped, places_more, points_more}
 use Rattle.act_probe.proofs.batch.meet_ways.Goals as goal
 
-pub meet_way-requires-clause-reached : goal.meet_way-requires-clause-reached
-meet_way-requires-clause-reached g c =
-    let r = c.requires.reached in
+pub meet_way-requires-clause-down : goal.meet_way-requires-clause-down
+meet_way-requires-clause-down g c =
+    let r = c.requires.down in
     let within : c.loop-i.i < length c.args.ways.now = omega (arith, c.loop-i-test.true) in
     rw c.loop-i.invariant.same (r.0, r.1, r.2, r.3, r.4 c.loop-i.i no_way within)
 

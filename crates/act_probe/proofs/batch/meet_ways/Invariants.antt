@@ -5,7 +5,7 @@ use Rattle.act_super.specs.declared.entry.State.{State}
 use Rattle.act_super.specs.Stands.{Stands}
 use Rattle.act_probe.specs.declared.group.Way.{Way}
 use Rattle.act_probe.specs.Reads.{reads_of}
-use Rattle.act_probe.specs.Ways.{IsReached}
+use Rattle.act_probe.specs.Groups.{IsDown}
 use Rattle.act_probe.specs.Batches.{Gathers}
 use Rattle.act_probe.proofs.batch.meet_ways.Given as goal
 
@@ -17,11 +17,11 @@ invariant-loop-i g l = record {
   room : length l.found.hits.items ≤ length l.fn.found.hits.items + 510 * l.i;
   bound : l.found.reads ≤ l.fn.found.reads + 766 * l.i;
   few : (root : ℕ) (settings : Settings) (state : State) (s : Stands settings (g.W.Words.image l.fn.words) root state)
-      → All (λ (way : Way). IsReached settings state s.layout way.point way.entry way.nodes) l.ways
+      → All (IsDown settings state s.layout) l.ways
       → l.found.reads + sum_by (λ (way : Way). way.nodes) (take l.i l.ways)
       ≤ l.fn.found.reads + sum_by (λ p. reads_of settings state p l.layers) (map (λ (way : Way). way.point) (take l.i l.ways));
   at : (root : ℕ) (settings : Settings) (state : State) (s : Stands settings (g.W.Words.image l.fn.words) root state) (points : List Point)
-      → All (λ (way : Way). IsReached settings state s.layout way.point way.entry way.nodes) l.ways → length points ≡ l.fn.first
+      → All (IsDown settings state s.layout) l.ways → length points ≡ l.fn.first
       → Gathers (g.W.Words.image l.fn.words) settings state l.layers points (sum_by (λ (way : Way). way.nodes) l.ways) l.fn.found
       → Gathers (g.W.Words.image l.fn.words) settings state l.layers (points ++ map (λ (way : Way). way.point) (take l.i l.ways)) (sum_by (λ (way : Way). way.nodes) (drop l.i l.ways)) l.found;
 }
