@@ -22,7 +22,7 @@ use std::sync::ledger::Ledger;
 
 /// So few candidates of a zone are sooner tested one by one: which of an edge's ends lies higher, as a way over the words
 /// for all of them asks, is guessed wrong more often than on which side of one row they lie.
-const FEW: usize = 4;
+const FEW: usize = 2;
 
 /// Where the candidates of a zone end that begin at a place.
 fn run_end(candidates: &[Candidate], start: usize) -> usize
