@@ -18,7 +18,7 @@ import tempfile
 HERE = pathlib.Path(__file__).resolve().parent
 TOP = HERE.parent.parent
 sys.path.insert(0, str(TOP / 'bench'))
-from listing import listed                      # noqa: E402
+from listing import laid                        # noqa: E402
 
 USES = 'act_grid act_io act_geom act_base act_index'
 TURNS = 3
@@ -27,24 +27,11 @@ NATIVE = '-O3 -march=x86-64-v2 -std=c++17 -pthread -Wa,-mbranches-within-32B-bou
 
 def made(scratch, name):
     """Builds one of the programs in the scratch folder."""
-    lines, wanted, text = listed(), USES.split(), ''
-    for crate in wanted:
-        if crate not in lines:
-            continue
-        text += lines[crate][0] + '\n'
-        wanted += [use for use in lines[crate][1] if use not in wanted]
-        if not (scratch / 'crates' / crate).exists():
-            shutil.copytree(TOP / 'crates' / crate, scratch / 'crates' / crate)
-    for kept in (HERE / name).rglob('*.txt'):
-        to = scratch / 'crates' / name / kept.relative_to(HERE / name).with_suffix('')
-        to.parent.mkdir(parents=True, exist_ok=True)
-        shutil.copy(kept, to)
-    shutil.copy(TOP / 'HANDLES', scratch)
-    (scratch / 'crates.txt').write_text(f'{text}{name}: {USES}\n')
-    done = subprocess.run(['rt', 'run', '--jobs', '1'], cwd=scratch / 'crates' / name, stdout=subprocess.PIPE, text=True)
+    program = laid(scratch, HERE / name, USES)
+    done = subprocess.run(['rt', 'run', '--jobs', '1'], cwd=program, stdout=subprocess.PIPE, text=True)
     sys.stdout.write(''.join(done.stdout.splitlines(True)[-40:]))
     done.check_returncode()
-    return scratch / 'crates' / name / 'out' / name
+    return program / 'out' / name
 
 
 def told(command, found, side):

@@ -11,7 +11,6 @@ the crates that it stands on to a folder of its own, proves and builds it there 
 """
 import pathlib
 import re
-import shutil
 import subprocess
 import sys
 import tempfile
@@ -19,29 +18,17 @@ import tempfile
 HERE = pathlib.Path(__file__).resolve().parent
 TOP = HERE.parent.parent
 sys.path.insert(0, str(TOP / 'bench'))
-from listing import listed                      # noqa: E402
+from listing import laid                        # noqa: E402
 
 NAME = 'join_reads'
 USES = 'act_grid act_io act_words act_join'
 
 
 def made(scratch):
-    """Builds the program in the scratch folder."""
-    lines, wanted, text = listed(), USES.split(), ''
-    for crate in wanted:
-        if crate not in lines:
-            continue
-        text += lines[crate][0] + '\n'
-        wanted += [use for use in lines[crate][1] if use not in wanted]
-        if not (scratch / 'crates' / crate).exists():
-            shutil.copytree(TOP / 'crates' / crate, scratch / 'crates' / crate)
-    source = scratch / 'crates' / NAME / 'src' / 'main.rt'
-    source.parent.mkdir(parents=True)
-    shutil.copy(HERE / NAME / 'src' / 'main.rt.txt', source)
-    shutil.copy(TOP / 'HANDLES', scratch)
-    (scratch / 'crates.txt').write_text(f'{text}{NAME}: {USES}\n')
-    subprocess.run(['rt', 'run', '--jobs', '1'], cwd=source.parent.parent, stdin=subprocess.DEVNULL)
-    return source.parent.parent / 'out' / NAME
+    """Builds the program in the scratch folder. With no words it ends with the status 1 when it was built."""
+    program = laid(scratch, HERE / NAME, USES)
+    subprocess.run(['rt', 'run', '--jobs', '1'], cwd=program, stdin=subprocess.DEVNULL)
+    return program / 'out' / NAME
 
 
 def reads(program, script):
