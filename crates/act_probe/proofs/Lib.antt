@@ -10,7 +10,6 @@ pub mod EntryFacts
 pub mod TellFacts
 pub mod GroupFacts
 pub mod HalfFacts
-pub mod ToldFacts
 pub mod MetFacts
 pub mod SumFacts
 pub mod GatherFacts

@@ -1,5 +1,5 @@
 -- Lists of references, two a word.
-use Rattle.std.proofs.Common.{◌≡◌, ℕ, zero, suc, ◌+◌, ◌*◌, ◌/◌, ◌<◌, ◌≤◌, ◌++◌, Bool, true, false, cond, Option, Some, None, refl, sym, ap, ◌∙◌, arith, List, [], ◌∷◌, length, drop, append_assoc, subst}
+use Rattle.std.proofs.Common.{◌≡◌, ℕ, zero, suc, ◌+◌, ◌*◌, ◌/◌, ◌<◌, ◌≤◌, ◌++◌, Bool, true, false, cond, Option, Some, None, refl, sym, ap, ◌∙◌, arith, List, [], ◌∷◌, length, drop, take, append_assoc, subst}
 use Rattle.std.proofs.lemmas.List.{drop-drop, drop_all}
 use Rattle.std.proofs.lemmas.Option.{same_Some}
 use Rattle.std.specs.Prelude.{slice_index}
@@ -68,6 +68,25 @@ front_of x hit zones refs word a b h at tells =
     let next = next_of x hit zones refs word h at in
     let same = same_Some (next.a, next.b) (a, b) (sym next.pair ∙ tells) in
     record { front = next.front; are = next.are; refs_are = subst (λ (r : Ref × Option Ref). RefsOf x hit next.front (r.0 ∷ option_to_list r.1)) same next.refs_are }
+
+-- the same of a word whose references are known
+pub record Told (x : Sight) (hit : Zone → Bool) (zones : List Zone) (refs : List Ref) (a : Ref) (b : Option Ref) : Type 0 where
+  pub are : take 2 refs ≡ a ∷ option_to_list b
+  pub refs_are : RefsOf x hit (take 2 zones) (a ∷ option_to_list b)
+  pub long : length (a ∷ option_to_list b) + length (drop 2 refs) ≡ length refs
+
+pub told_of : (x : Sight) (hit : Zone → Bool) (zones : List Zone) (refs : List Ref) (word : ℕ) (a : Ref) (b : Option Ref) → RefsOf x hit zones refs → PairAt refs word
+    → pair_of word ≡ Some (a, b) → Told x hit zones refs a b
+told_of x hit zones [] word a b h at tells = absurd at
+told_of x hit [] (r ∷ refs) word a b h at tells = absurd h
+told_of x hit (z ∷ []) (r ∷ []) word a b h at tells =
+    let same = same_Some (r, None) (a, b) (sym (ap pair_of at ∙ told r None (row_fits h.0)) ∙ tells) in
+    subst (λ (q : Ref × Option Ref). Told x hit (z ∷ []) (r ∷ []) q.0 q.1) same (record { are = refl; refs_are = h; long = refl })
+told_of x hit (z ∷ (y ∷ zones)) (r ∷ []) word a b h at tells = absurd h.2
+told_of x hit (z ∷ []) (r ∷ (q ∷ refs)) word a b h at tells = absurd h.2
+told_of x hit (z ∷ (y ∷ zones)) (r ∷ (q ∷ refs)) word a b h at tells =
+    let same = same_Some (r, Some q) (a, b) (sym (ap pair_of at ∙ told r (Some q) (row_fits h.0, row_fits h.2.0)) ∙ tells) in
+    subst (λ (p : Ref × Option Ref). Told x hit (z ∷ (y ∷ zones)) (r ∷ (q ∷ refs)) p.0 p.1) same (record { are = refl; refs_are = (h.0, h.1, (h.2.0, h.2.1, tt)); long = omega arith })
 
 pub never_none : (x : Sight) (hit : Zone → Bool) (zones : List Zone) (refs : List Ref) (word : ℕ) → RefsOf x hit zones refs → PairAt refs word → pair_of word ≡ None → ⊥
 never_none x hit zones refs word h at none = let next = next_of x hit zones refs word h at in let no = sym next.pair ∙ none in cc

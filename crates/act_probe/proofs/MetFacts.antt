@@ -1,5 +1,5 @@
 -- The zones that meet the leaf of a point.
-use Rattle.std.proofs.Common.{◌≡◌, ℕ, zero, suc, ◌+◌, ◌<◌, ◌++◌, Bool, true, false, not, ◌&&◌, cond, refl, sym, ap, ◌∙◌, arith, List, [], ◌∷◌, append_assoc, append-nil, length, take, get_or}
+use Rattle.std.proofs.Common.{◌≡◌, ℕ, zero, suc, ◌+◌, ◌++◌, Bool, true, false, not, ◌&&◌, cond, refl, sym, ap, ◌∙◌, subst, arith, List, [], ◌∷◌, append_assoc, append-nil, drop, length, take}
 use Rattle.std.specs.Prelude.{sum_by}
 use Rattle.std.proofs.lemmas.List.{map-append, length-map}
 use Rattle.std.proofs.lemmas.List.Elements.{All-append, All-cons, All-nil}
@@ -14,10 +14,7 @@ use Rattle.act_probe.specs.declared.buffers.Found.{Found}
 use Rattle.act_probe.specs.Chains.{ChainAt, RefsOf, found_reads}
 use Rattle.act_probe.specs.Reads.{body_reads}
 use Rattle.act_probe.specs.Batches.{Holds, Met, candidate_of, candidates_from, met_by, mets_by, pair_of, test_reads}
-
--- what stands behind the last reference of a list
-abbrev pub no_ref : Ref
-no_ref = record { row = 0; hit = false }
+use Rattle.act_probe.proofs.RefFacts.{one_of, two_of}
 
 -- the candidates of two lists
 pub candidates-append : (x : Sight) (i : ℕ) (ms ns : List Met) → candidates_from x i (ms ++ ns) ≡ candidates_from x i ms ++ candidates_from x (i + length ms) ns
@@ -54,24 +51,57 @@ module _ (x : Sight) (layers : Layers) (place : ℕ) (p : Point) (r : Ref) (zone
   put_in has holds chain hits kept candidates =
       rw has (held_more x old new mets (record { place = place; point = p; zone = zone; row = r.row; hit = r.hit }) holds chain hits kept candidates)
 
--- the zone of a reference at a place
-pub record ZoneAt (x : Sight) (layers : Layers) (place : ℕ) (p : Point) (zones : List Zone) (refs : List Ref) (i : ℕ) (d : Ref) : Type 0 where
-  pub zone : Zone
-  pub chain : ChainAt x zone (get_or refs i d).row
-  pub more : mets_by layers place p (take (suc i) zones) (take (suc i) refs) ≡ mets_by layers place p (take i zones) (take i refs) ++ met_by layers place p (get_or refs i d) zone
+-- one reference or two were taken, each with its zone
+module _ (x : Sight) (layers : Layers) (place : ℕ) (p : Point) (hit : Zone → Bool) (zones : List Zone) (a b : Ref) (old mid new : Found) (mets : List Met) where
+  pub one_met : RefsOf x hit zones (a ∷ []) → Holds x old mets
+      → ((zone : Zone) (mets : List Met) → ChainAt x zone a.row → Holds x old mets → Holds x new (mets ++ met_by layers place p a zone))
+      → Holds x new (mets ++ mets_by layers place p zones (a ∷ []))
+  one_met refs holds step =
+      let o = one_of x hit zones a refs in
+      subst (λ (ms : List Met). Holds x new (mets ++ ms)) (sym (append-nil (met_by layers place p a o.first)) ∙ ap (λ (zs : List Zone). mets_by layers place p zs (a ∷ [])) (sym o.are))
+      (step o.first mets o.chain holds)
 
-pub zone_at : (x : Sight) (layers : Layers) (place : ℕ) (p : Point) (hit : Zone → Bool) (zones : List Zone) (refs : List Ref) (i : ℕ) (d : Ref) → RefsOf x hit zones refs → i < length refs
-    → ZoneAt x layers place p zones refs i d
-zone_at x layers place p hit zones [] i d h within = absurd (omega (arith, within))
-zone_at x layers place p hit [] (r ∷ refs) i d h within = absurd h
-zone_at x layers place p hit (z ∷ zones) (r ∷ refs) zero d h within = record { zone = z; chain = h.0; more = append-nil (met_by layers place p r z) }
-zone_at x layers place p hit (z ∷ zones) (r ∷ refs) (suc i) d h within =
-    let at = zone_at x layers place p hit zones refs i d h.2 (omega (arith, within)) in
-    record {
-      zone = at.zone;
-      chain = at.chain;
-      more = ap (λ ms. met_by layers place p r z ++ ms) at.more ∙ sym (append_assoc (met_by layers place p r z) (mets_by layers place p (take i zones) (take i refs)) (met_by layers place p (get_or refs i d) at.zone));
-    }
+  pub two_met : RefsOf x hit zones (a ∷ b ∷ []) → Holds x old mets
+      → ((zone : Zone) (mets : List Met) → ChainAt x zone a.row → Holds x old mets → Holds x mid (mets ++ met_by layers place p a zone))
+      → ((zone : Zone) (mets : List Met) → ChainAt x zone b.row → Holds x mid mets → Holds x new (mets ++ met_by layers place p b zone))
+      → Holds x new (mets ++ mets_by layers place p zones (a ∷ b ∷ []))
+  two_met refs holds step step_next =
+      let o = two_of x hit zones a b refs in
+      let both = step_next o.second (mets ++ met_by layers place p a o.first) o.next (step o.first mets o.chain holds) in
+      subst (Holds x new) (
+      append_assoc mets (met_by layers place p a o.first) (met_by layers place p b o.second)
+      ∙ ap (λ (ms : List Met). mets ++ (met_by layers place p a o.first ++ ms)) (sym (append-nil (met_by layers place p b o.second)))
+      ∙ ap (λ (zs : List Zone). mets ++ mets_by layers place p zs (a ∷ b ∷ [])) (sym o.are)) both
+
+-- there was none to be taken
+pub nothing_met : (x : Sight) (layers : Layers) (place : ℕ) (p : Point) (hit : Zone → Bool) (zones : List Zone) (refs : List Ref) (found : Found) (mets : List Met) → RefsOf x hit zones refs → refs ≡ []
+    → Holds x found mets → Holds x found (mets ++ mets_by layers place p zones refs)
+nothing_met x layers place p hit [] [] found mets h none holds = subst (Holds x found) (sym (append-nil mets)) holds
+nothing_met x layers place p hit [] (r ∷ refs) found mets h none holds = absurd h
+nothing_met x layers place p hit (z ∷ zones) [] found mets h none holds = absurd h
+nothing_met x layers place p hit (z ∷ zones) (r ∷ refs) found mets h none holds = absurd (cc)
+
+-- the words that are read are of no account
+pub read_more : (x : Sight) (found : Found) (mets : List Met) (reads : ℕ) → Holds x found mets → Holds x (record found { reads = reads }) mets
+read_more x found mets reads holds = record { hits = holds.hits; kept = holds.kept; candidates = holds.candidates; chains = holds.chains }
+
+-- the references before a place, and some after it
+module _ (x : Sight) (layers : Layers) (place : ℕ) (p : Point) (hit : Zone → Bool) where
+  none_by : (m : ℕ) → mets_by layers place p (take m []) (take m []) ≡ []
+  none_by zero = refl
+  none_by (suc m) = refl
+
+  pub mets_more : (zones : List Zone) (refs : List Ref) (n m k : ℕ) → k ≡ n + m → RefsOf x hit zones refs
+      → mets_by layers place p (take k zones) (take k refs) ≡ mets_by layers place p (take n zones) (take n refs) ++ mets_by layers place p (take m (drop n zones)) (take m (drop n refs))
+  mets_more zones refs zero m k e h = let same : k ≡ m = omega (arith, e) in ap (λ i. mets_by layers place p (take i zones) (take i refs)) same
+  mets_more zones refs (suc n) m zero e h = absurd (omega (arith, e))
+  mets_more [] [] (suc n) m (suc k) e h = sym (none_by m)
+  mets_more [] (r ∷ refs) (suc n) m (suc k) e h = absurd h
+  mets_more (z ∷ zones) [] (suc n) m (suc k) e h = absurd h
+  mets_more (z ∷ zones) (r ∷ refs) (suc n) m (suc k) e h =
+      let fewer : k ≡ n + m = omega (arith, e) in
+      ap (λ ms. met_by layers place p r z ++ ms) (mets_more zones refs n m k fewer h.2)
+      ∙ sym (append_assoc (met_by layers place p r z) (mets_by layers place p (take n zones) (take n refs)) (mets_by layers place p (take m (drop n zones)) (take m (drop n refs))))
 
 -- the words of the references, and of those to be tested
 pub words_are : (x : Sight) (layers : Layers) (place : ℕ) (p : Point) (hit : Zone → Bool) (zones : List Zone) (refs : List Ref) → RefsOf x hit zones refs

@@ -49,6 +49,24 @@ no_keys x hit zones (a ∷ []) layers p row place are is = cc
 no_keys x hit zones (a ∷ (b ∷ [])) layers p row place are is = cc
 no_keys x hit zones (a ∷ (b ∷ (c ∷ refs))) layers p row place are is = cc
 
+pub refs_one : (refs : List Ref) (row place : ℕ) (a : Ref) → entry.One a ≡ entry_for refs row place → refs ≡ a ∷ []
+refs_one [] row place a is = cc
+refs_one (r ∷ []) row place a is = cc
+refs_one (r ∷ (q ∷ [])) row place a is = cc
+refs_one (r ∷ (q ∷ (t ∷ refs))) row place a is = cc
+
+pub refs_two : (refs : List Ref) (row place : ℕ) (a b : Ref) → entry.Two a b ≡ entry_for refs row place → refs ≡ a ∷ b ∷ []
+refs_two [] row place a b is = cc
+refs_two (r ∷ []) row place a b is = cc
+refs_two (r ∷ (q ∷ [])) row place a b is = cc
+refs_two (r ∷ (q ∷ (t ∷ refs))) row place a b is = cc
+
+pub refs_none : (refs : List Ref) (row place : ℕ) → entry.Empty ≡ entry_for refs row place → refs ≡ []
+refs_none [] row place is = refl
+refs_none (r ∷ []) row place is = cc
+refs_none (r ∷ (q ∷ [])) row place is = cc
+refs_none (r ∷ (q ∷ (t ∷ refs))) row place is = cc
+
 row_in : Entry → ℕ
 row_in (entry.Table row place) = row
 row_in entry.Empty = 0

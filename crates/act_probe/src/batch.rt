@@ -17,7 +17,6 @@ use crate::meet::meet_entry;
 use crate::settle::finish;
 use crate::words::Words;
 use act_base::Steps;
-use act_entry::Ref;
 use act_grid::{Layers, NoMemory, Point};
 use std::sync::ledger::Ledger;
 
@@ -30,7 +29,6 @@ fn meet_way<W: Words, L: Ledger>(
     way: &Way,
     place: u32,
     layers: &Layers,
-    refs: &mut Vec<Ref>,
     found: &mut Found,
     steps: &mut Steps<L>,
 ) -> Result<(), NoMemory>
@@ -50,7 +48,7 @@ fn meet_way<W: Words, L: Ledger>(
     ensures bound { found.new.reads ≤ found.old.reads + 766 }
 {
     let entry = entry_in(way.word);
-    meet_entry(words, entry, place, way.point, layers, refs, found, steps)?;
+    meet_entry(words, entry, place, way.point, layers, found, steps)?;
     Ok(())
 }
 
@@ -60,7 +58,6 @@ fn meet_ways<W: Words, L: Ledger>(
     first: u32,
     ways: &[Way],
     layers: &Layers,
-    refs: &mut Vec<Ref>,
     found: &mut Found,
     steps: &mut Steps<L>,
 ) -> Result<(), NoMemory>
@@ -82,7 +79,7 @@ fn meet_ways<W: Words, L: Ledger>(
     ensures bound { found.new.reads ≤ found.old.reads + 766 * length ways.now }
 {
     for (i, way) in ways.iter().enumerate() {
-        meet_way(words, way, first + i as u32, layers, refs, found, steps)?;
+        meet_way(words, way, first + i as u32, layers, found, steps)?;
     }
     Ok(())
 }
@@ -124,7 +121,6 @@ fn meet_group<W: Words, L: Ledger>(
         first,
         &buffers.ways,
         layers,
-        &mut buffers.refs,
         &mut buffers.found,
         steps,
     )?;

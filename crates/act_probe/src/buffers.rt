@@ -3,7 +3,6 @@
 ghost use Rattle.std.specs.Prelude.{◌≡◌};
 
 use crate::group::Way;
-use act_entry::Ref;
 use act_grid::Point;
 use std::alloc::Global;
 
@@ -45,7 +44,6 @@ pub(crate) struct Found {
 #[derive(Drop)]
 pub struct Buffers {
     pub(crate) ways: Vec<Way>,
-    pub(crate) refs: Vec<Ref>,
     pub(crate) found: Found,
 }
 
@@ -62,7 +60,6 @@ impl Buffers {
         };
         Buffers {
             ways: Vec::new(alloc),
-            refs: Vec::new(alloc),
             found,
         }
     }

@@ -30,7 +30,6 @@ mod settle;
 mod sweep;
 #[cfg(test)]
 mod tests;
-mod told;
 mod trace;
 mod words;
 mod zones;

@@ -1,17 +1,19 @@
 //! The zones that meet the leaves of points.
 
-ghost use Rattle.std.specs.Prelude.{◌≡◌, ◌+◌, ◌*◌, ◌/◌, ◌<◌, ◌≤◌, ◌^◌, ◌++◌, ◌∷◌, [], Bool, List, OnOk, cond, false, length};
+ghost use Rattle.std.specs.Prelude.{◌≡◌, ◌+◌, ◌*◌, ◌/◌, ◌<◌, ◌≤◌, ◌^◌, ◌++◌, ◌∷◌, [], Bool, List, OnOk, cond, drop, false, length, take};
+ghost use Rattle.std.specs.Option.{option_to_list};
+ghost use Rattle.act_base.specs.Counting.{times};
 ghost use Rattle.act_entry.specs.declared.reference.Ref.{Ref};
 ghost use Rattle.act_super.specs.declared.entry.Zone.{Zone};
-ghost use Rattle.act_probe.specs.Chains.{ChainAt, RefsOf, Tells};
+ghost use Rattle.act_super.specs.Stands.{HasWords, words_of};
+ghost use Rattle.act_probe.specs.Chains.{ChainAt, PairAt, RefsOf, Tells};
 ghost use Rattle.act_probe.specs.Reads.{list_reads};
 ghost use Rattle.act_probe.specs.Batches.{Holds, Met, met_by, mets_by};
 
 use crate::buffers::{Candidate, Found, Hit};
-use crate::told::tell;
 use crate::words::Words;
 use act_base::Steps;
-use act_entry::{Entry, Ref, chain_key};
+use act_entry::{Entry, Ref, chain_key, unpack};
 use act_grid::{Layers, NoMemory, Point};
 use std::sync::ledger::Ledger;
 
@@ -73,28 +75,102 @@ fn meet<W: Words, L: Ledger>(
     Ok(())
 }
 
-/// Takes the references of a point's leaf.
-fn meet_all<W: Words, L: Ledger>(
+/// Takes one reference or two of a point's leaf.
+fn meet_pair<W: Words, L: Ledger>(
     words: &mut W,
-    refs: &[Ref],
+    a: Ref,
+    b: Option<Ref>,
     place: u32,
     point: Point,
     layers: &Layers,
     found: &mut Found,
     steps: &mut Steps<L>,
 ) -> Result<(), NoMemory>
-    requires refs { (hit : Zone → Bool) × (zones : List Zone) × RefsOf (W.image words.old) hit zones refs.now }
-    requires room { length found.old.hits.items + length refs.now < 2 ^ 32 }
-    requires few { found.old.reads + length refs.now < 2 ^ 60 }
+    requires refs { (hit : Zone → Bool) × (zones : List Zone) × RefsOf (W.image words.old) hit zones (a ∷ option_to_list b) }
+    requires room { length found.old.hits.items + 2 < 2 ^ 32 }
+    requires few { found.old.reads + 2 < 2 ^ 60 }
     ensures same { words.new ≡ words.old }
-    ensures ok { OnOk result ((hit : Zone → Bool) (zones : List Zone) (mets : List Met) → RefsOf (W.image words.old) hit zones refs.now → Holds (W.image words.old) found.old mets
-        → Holds (W.image words.old) found.new (mets ++ mets_by layers.now place point zones refs.now)) }
-    ensures few { found.new.reads ≤ found.old.reads + length refs.now }
+    ensures ok { OnOk result ((hit : Zone → Bool) (zones : List Zone) (mets : List Met) → RefsOf (W.image words.old) hit zones (a ∷ option_to_list b) → Holds (W.image words.old) found.old mets
+        → Holds (W.image words.old) found.new (mets ++ mets_by layers.now place point zones (a ∷ option_to_list b))) }
+    ensures few { found.new.reads ≤ found.old.reads + length (a ∷ option_to_list b) }
     ensures ticks { steps.new + found.old.reads ≡ steps.old + found.new.reads }
-    ensures room { OnOk result (length found.new.hits.items ≤ length found.old.hits.items + length refs.now) }
+    ensures room { OnOk result (length found.new.hits.items ≤ length found.old.hits.items + 2) }
+    ensures bound { found.new.reads ≤ found.old.reads + 2 }
 {
-    for r in refs {
-        meet(words, *r, place, point, layers, found, steps)?;
+    meet(words, a, place, point, layers, found, steps)?;
+    match b {
+        Some(b) => {
+            meet(words, b, place, point, layers, found, steps)?;
+            Ok(())
+        }
+        None => Ok(()),
+    }
+}
+
+/// Takes the references of a word of the list of a point's leaf.
+fn meet_word<W: Words, L: Ledger>(
+    words: &mut W,
+    word: u64,
+    place: u32,
+    point: Point,
+    layers: &Layers,
+    found: &mut Found,
+    steps: &mut Steps<L>,
+) -> Result<(), NoMemory>
+    requires refs { (hit : Zone → Bool) × (zones : List Zone) × (all : List Ref) × RefsOf (W.image words.old) hit zones all × PairAt all word }
+    requires room { length found.old.hits.items + 2 < 2 ^ 32 }
+    requires few { found.old.reads + 2 < 2 ^ 60 }
+    ensures same { words.new ≡ words.old }
+    ensures ok { OnOk result ((hit : Zone → Bool) (zones : List Zone) (all : List Ref) (mets : List Met) → RefsOf (W.image words.old) hit zones all → PairAt all word
+        → Holds (W.image words.old) found.old mets → Holds (W.image words.old) found.new (mets ++ mets_by layers.now place point (take 2 zones) (take 2 all))) }
+    ensures few { (hit : Zone → Bool) (zones : List Zone) (all : List Ref) → RefsOf (W.image words.old) hit zones all → PairAt all word
+        → found.new.reads + length (drop 2 all) ≤ found.old.reads + length all }
+    ensures ticks { steps.new + found.old.reads ≡ steps.old + found.new.reads }
+    ensures room { OnOk result (length found.new.hits.items ≤ length found.old.hits.items + 2) }
+    ensures bound { found.new.reads ≤ found.old.reads + 2 }
+{
+    match unpack(word) {
+        Some((a, b)) => {
+            meet_pair(words, a, b, place, point, layers, found, steps)?;
+            Ok(())
+        }
+        None => Ok(()),
+    }
+}
+
+/// Takes the references of the list of a point's leaf, which begins at a place of a row.
+fn meet_list<W: Words, L: Ledger>(
+    words: &mut W,
+    row: u32,
+    start: u8,
+    place: u32,
+    point: Point,
+    layers: &Layers,
+    found: &mut Found,
+    steps: &mut Steps<L>,
+) -> Result<(), NoMemory>
+    requires list { (hit : Zone → Bool) × (zones : List Zone) × (all : List Ref) × RefsOf (W.image words.old) hit zones all
+        × HasWords (W.image words.old) row start (words_of all) × (length all ≤ 510) }
+    requires held { 0 < times (W.image words.old).rows row }
+    requires room { length found.old.hits.items < 2 ^ 31 }
+    requires few { found.old.reads < 2 ^ 59 }
+    ensures same { words.new ≡ words.old }
+    ensures ok { OnOk result ((hit : Zone → Bool) (zones : List Zone) (all : List Ref) (mets : List Met) → RefsOf (W.image words.old) hit zones all
+        → HasWords (W.image words.old) row start (words_of all) → Holds (W.image words.old) found.old mets
+        → Holds (W.image words.old) found.new (mets ++ mets_by layers.now place point zones all)) }
+    ensures few { (hit : Zone → Bool) (zones : List Zone) (all : List Ref) → RefsOf (W.image words.old) hit zones all
+        → HasWords (W.image words.old) row start (words_of all) → found.new.reads ≤ found.old.reads + length (words_of all) + length all }
+    ensures ticks { steps.new + found.old.reads ≡ steps.old + found.new.reads }
+    ensures room { OnOk result (length found.new.hits.items ≤ length found.old.hits.items + 510) }
+    ensures bound { found.new.reads ≤ found.old.reads + 766 }
+{
+    let count = words.word(row, start, steps);
+    let pairs = (count + 1) / 2;
+    found.reads += 1;
+    for j in 0..pairs {
+        let word = words.word(row, start + 1 + j as u8, steps);
+        found.reads += 1;
+        meet_word(words, word, place, point, layers, found, steps)?;
     }
     Ok(())
 }
@@ -106,7 +182,6 @@ pub(crate) fn meet_entry<W: Words, L: Ledger>(
     place: u32,
     point: Point,
     layers: &Layers,
-    refs: &mut Vec<Ref>,
     found: &mut Found,
     steps: &mut Steps<L>,
 ) -> Result<(), NoMemory>
@@ -122,7 +197,19 @@ pub(crate) fn meet_entry<W: Words, L: Ledger>(
     ensures room { OnOk result (length found.new.hits.items ≤ length found.old.hits.items + 510) }
     ensures bound { found.new.reads ≤ found.old.reads + 766 }
 {
-    tell(words, entry, refs, &mut found.reads, steps)?;
-    meet_all(words, refs, place, point, layers, found, steps)?;
-    Ok(())
+    match entry {
+        Entry::One(a) => {
+            meet_pair(words, a, None, place, point, layers, found, steps)?;
+            Ok(())
+        }
+        Entry::Two(a, b) => {
+            meet_pair(words, a, Some(b), place, point, layers, found, steps)?;
+            Ok(())
+        }
+        Entry::Table { row, place: start } => {
+            meet_list(words, row, start, place, point, layers, found, steps)?;
+            Ok(())
+        }
+        Entry::Empty | Entry::Child(_) => Ok(()),
+    }
 }

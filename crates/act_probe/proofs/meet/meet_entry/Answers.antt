@@ -1,39 +1,71 @@
-use Rattle.std.proofs.Common.{◌∙◌, ap, arith, length, List}
+use Rattle.std.proofs.Common.{◌++◌, ◌∙◌, List, ap, arith, inl, inr, length, subst, sym}
 use Rattle.act_entry.specs.declared.reference.Ref.{Ref}
+use Rattle.act_probe.specs.Batches.{Holds, mets_by}
+use Rattle.act_probe.specs.Chains.{RefsOf}
+use Rattle.act_probe.proofs.MetFacts.{nothing_met}
+use Rattle.act_probe.proofs.TellFacts.{list_there, never_child, refs_none, refs_one, refs_two, table_long}
 use Rattle.act_probe.proofs.meet.meet_entry.Goals as goal
 
-pub returns-in_err-tell-clause-few : goal.returns-in_err-tell-clause-few
-returns-in_err-tell-clause-few g c = λ hit zones all tells. omega (arith, c.tell.ensures.few hit zones all tells)
-
-pub meet_all-requires-clause-refs : goal.meet_all-requires-clause-refs
-meet_all-requires-clause-refs g c =
+pub meet_pair-requires-clause-refs : goal.meet_pair-requires-clause-refs
+meet_pair-requires-clause-refs g c =
     let r = c.requires.tells in
-    rw (c.tell.ensures.same, c.deref.ensures.value, c.in_ok-tell.ensures.told r.0 r.1 r.2 r.3) (r.0, r.1, r.3.are)
+    (r.0, r.1, subst (RefsOf (g.W.Words.image c.args.words.now) r.0 r.1) (refs_one r.2 r.3.row r.3.place c.in-One.a (sym c.in-One.is ∙ r.3.is)) r.3.are)
 
-pub meet_all-requires-clause-room : goal.meet_all-requires-clause-room
-meet_all-requires-clause-room g c = omega (arith, c.in_ok-tell.ensures.short, ap (λ (rs : List Ref). length rs) c.deref.ensures.value)
+pub meet_pair-requires-in-Two-clause-refs : goal.meet_pair-requires-in-Two-clause-refs
+meet_pair-requires-in-Two-clause-refs g c =
+    let r = c.requires.tells in
+    (r.0, r.1, subst (RefsOf (g.W.Words.image c.args.words.now) r.0 r.1) (refs_two r.2 r.3.row r.3.place c.in-Two.a c.in-Two.b (sym c.in-Two.is ∙ r.3.is)) r.3.are)
 
-pub meet_all-requires-clause-few : goal.meet_all-requires-clause-few
-meet_all-requires-clause-few g c = omega (arith, c.in_ok-tell.ensures.short, ap (λ (rs : List Ref). length rs) c.deref.ensures.value, c.tell.ensures.bound)
+pub returns-in_err-meet_pair-in-One-clause-few : goal.returns-in_err-meet_pair-in-One-clause-few
+returns-in_err-meet_pair-in-One-clause-few g c = λ hit zones all tells.
+    omega (arith, c.meet_pair.ensures.few, ap (λ (rs : List Ref). length rs) (refs_one all tells.row tells.place c.in-One.a (sym c.in-One.is ∙ tells.is)))
 
-pub returns-in_err-meet_all-clause-few : goal.returns-in_err-meet_all-clause-few
-returns-in_err-meet_all-clause-few g c = λ hit zones all tells.
-    omega (arith, c.tell.ensures.few hit zones all tells, c.meet_all.ensures.few, ap (λ (rs : List Ref). length rs) (c.deref.ensures.value ∙ c.in_ok-tell.ensures.told hit zones all tells))
+pub returns-in_err-meet_pair-in-Two-clause-few : goal.returns-in_err-meet_pair-in-Two-clause-few
+returns-in_err-meet_pair-in-Two-clause-few g c = λ hit zones all tells.
+    omega (arith, c.meet_pair-in-Two.ensures.few, ap (λ (rs : List Ref). length rs) (refs_two all tells.row tells.place c.in-Two.a c.in-Two.b (sym c.in-Two.is ∙ tells.is)))
 
-pub returns-in_err-meet_all-clause-bound : goal.returns-in_err-meet_all-clause-bound
-returns-in_err-meet_all-clause-bound g c = omega (arith, c.in_ok-tell.ensures.short, ap (λ (rs : List Ref). length rs) c.deref.ensures.value, c.tell.ensures.bound, c.meet_all.ensures.few)
+pub returns-in_err-meet_list-in-Table-clause-few : goal.returns-in_err-meet_list-in-Table-clause-few
+returns-in_err-meet_list-in-Table-clause-few g c = λ hit zones all tells.
+    omega (
+      arith,
+      table_long _ hit zones all c.args.entry c.in-Table.row c.in-Table.start tells c.in-Table.is,
+      c.meet_list.ensures.few hit zones all tells.are (list_there _ hit zones all c.args.entry c.in-Table.row c.in-Table.start tells c.in-Table.is),
+    )
 
-pub returns-clause-ok : goal.returns-clause-ok
-returns-clause-ok g c = λ hit zones all mets tells holds.
-    let told = c.deref.ensures.value ∙ c.in_ok-tell.ensures.told hit zones all tells in
-    (rw (c.tell.ensures.same, told) at c.in_ok-meet_all.ensures.ok) hit zones mets tells.are (record { hits = holds.hits; kept = holds.kept; candidates = holds.candidates; chains = holds.chains })
+pub returns-in_ok-meet_pair-in-One-clause-ok : goal.returns-in_ok-meet_pair-in-One-clause-ok
+returns-in_ok-meet_pair-in-One-clause-ok g c = λ hit zones all mets tells holds.
+    let one = refs_one all tells.row tells.place c.in-One.a (sym c.in-One.is ∙ tells.is) in
+    subst (λ (rs : List Ref). Holds (g.W.Words.image c.args.words.now) c.meet_pair.new.found (mets ++ mets_by c.args.layers.now c.args.place c.args.point zones rs)) (sym one)
+    (c.in_ok-meet_pair-in-One.ensures.ok hit zones mets (subst (RefsOf (g.W.Words.image c.args.words.now) hit zones) one tells.are) holds)
 
-pub returns-clause-few : goal.returns-clause-few
-returns-clause-few g c = λ hit zones all tells.
-    omega (arith, c.tell.ensures.few hit zones all tells, c.meet_all.ensures.few, ap (λ (rs : List Ref). length rs) (c.deref.ensures.value ∙ c.in_ok-tell.ensures.told hit zones all tells))
+pub returns-in_ok-meet_pair-in-One-clause-few : goal.returns-in_ok-meet_pair-in-One-clause-few
+returns-in_ok-meet_pair-in-One-clause-few g c = λ hit zones all tells.
+    omega (arith, c.meet_pair.ensures.few, ap (λ (rs : List Ref). length rs) (refs_one all tells.row tells.place c.in-One.a (sym c.in-One.is ∙ tells.is)))
 
-pub returns-clause-room : goal.returns-clause-room
-returns-clause-room g c = omega (arith, c.in_ok-tell.ensures.short, ap (λ (rs : List Ref). length rs) c.deref.ensures.value, c.in_ok-meet_all.ensures.room)
+pub returns-in_ok-meet_pair-in-Two-clause-ok : goal.returns-in_ok-meet_pair-in-Two-clause-ok
+returns-in_ok-meet_pair-in-Two-clause-ok g c = λ hit zones all mets tells holds.
+    let two = refs_two all tells.row tells.place c.in-Two.a c.in-Two.b (sym c.in-Two.is ∙ tells.is) in
+    subst (λ (rs : List Ref). Holds (g.W.Words.image c.args.words.now) c.meet_pair-in-Two.new.found (mets ++ mets_by c.args.layers.now c.args.place c.args.point zones rs)) (sym two)
+    (c.in_ok-meet_pair-in-Two.ensures.ok hit zones mets (subst (RefsOf (g.W.Words.image c.args.words.now) hit zones) two tells.are) holds)
 
-pub returns-clause-bound : goal.returns-clause-bound
-returns-clause-bound g c = omega (arith, c.in_ok-tell.ensures.short, ap (λ (rs : List Ref). length rs) c.deref.ensures.value, c.tell.ensures.bound, c.meet_all.ensures.few)
+pub returns-in_ok-meet_pair-in-Two-clause-few : goal.returns-in_ok-meet_pair-in-Two-clause-few
+returns-in_ok-meet_pair-in-Two-clause-few g c = λ hit zones all tells.
+    omega (arith, c.meet_pair-in-Two.ensures.few, ap (λ (rs : List Ref). length rs) (refs_two all tells.row tells.place c.in-Two.a c.in-Two.b (sym c.in-Two.is ∙ tells.is)))
+
+pub returns-in_ok-meet_list-in-Table-clause-ok : goal.returns-in_ok-meet_list-in-Table-clause-ok
+returns-in_ok-meet_list-in-Table-clause-ok g c = λ hit zones all mets tells holds.
+    c.in_ok-meet_list-in-Table.ensures.ok hit zones all mets tells.are (list_there _ hit zones all c.args.entry c.in-Table.row c.in-Table.start tells c.in-Table.is) holds
+
+pub returns-in_ok-meet_list-in-Table-clause-few : goal.returns-in_ok-meet_list-in-Table-clause-few
+returns-in_ok-meet_list-in-Table-clause-few g c = λ hit zones all tells.
+    omega (
+      arith,
+      table_long _ hit zones all c.args.entry c.in-Table.row c.in-Table.start tells c.in-Table.is,
+      c.meet_list.ensures.few hit zones all tells.are (list_there _ hit zones all c.args.entry c.in-Table.row c.in-Table.start tells c.in-Table.is),
+    )
+
+pub returns-in-Empty-clause-ok : goal.returns-in-Empty-clause-ok
+returns-in-Empty-clause-ok g c = λ hit zones all mets tells holds. elim c.in-Empty.is [
+  | inl is ↦ nothing_met (g.W.Words.image c.args.words.now) c.args.layers.now c.args.place c.args.point hit zones all c.args.found.now mets tells.are (refs_none all tells.row tells.place (sym is ∙ tells.is)) holds
+  | inr is ↦ absurd (never_child all tells.row tells.place is.0 (sym is.1 ∙ tells.is))
+]
