@@ -66,6 +66,10 @@ module _ (x : Sight) (zone : Zone) (first : ℕ) (c : ChainAt x zone first) wher
   pub short : length (body_of zone.shape) ≤ 349526
   short = omega (arith, length-body zone.shape, c.small, rings_few zone.shape (recursion_from_All (λ (ring : List Point). 3 ≤ length ring) zone.shape c.full))
 
+  -- so many words of the row at hand were read
+  pub at_ahead : (row next passed place k n : ℕ) → place + n ≤ 255 → IsAt x zone first c row next passed place k → IsAt x zone first c row next passed (place + n) (k + n)
+  at_ahead row next passed place k n within at = record { row_is = at.row_is; next_is = at.next_is; read = omega (arith, at.read); within = within }
+
   -- ---- the next word stands in the row at hand
   module _ (row next passed place k : ℕ) (before : k < length (body_of zone.shape)) (at : IsAt x zone first c row next passed place k) where
     pub within_here : place < 255 → passed < length c.rows
@@ -120,6 +124,10 @@ module _ (x : Sight) (zone : Zone) (first : ℕ) (c : ChainAt x zone first) wher
       by : (k < length (body_of zone.shape)) ⊎ (length (body_of zone.shape) ≤ k) → k < length (body_of zone.shape)
       by (inl within) = within
       by (inr past) = absurd (not_at_end walk answer (rw (drop_all k (body_of zone.shape) past) at expects))
+
+  -- no body has more words
+  pub over : (walk : Walk) (k : ℕ) (answer : Bool) → 349526 ≤ k → Expects walk (drop k (body_of zone.shape)) answer → ⊥
+  over walk k answer past expects = omega (arith, past, going walk k answer expects, short)
 
   -- the next word that it expects
   pub next_word : (walk : Walk) (k word : ℕ) (answer : Bool) → k < length (body_of zone.shape) → word ≡ slice_index (body_of zone.shape) k

@@ -17,6 +17,7 @@ pub mod SettleFacts
 pub mod FinishFacts
 pub mod SweepFacts
 pub mod TraceFacts
+pub mod PassFacts
 pub mod OrderFacts
 pub mod KeyFacts
 pub mod ResolveFacts

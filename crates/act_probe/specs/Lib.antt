@@ -4,4 +4,5 @@ pub mod Ways
 pub mod Groups
 pub mod Batches
 pub mod Sweeps
+pub mod Passes
 pub mod Orders

@@ -1,5 +1,6 @@
 -- The candidates of one zone, tested by one way over its words.
-use Rattle.std.specs.Prelude.{◌≡◌, ◌≢◌, ℕ, ℤ, ◌+◌, ◌<◌, ◌≤◌, ◌<ℤ◌, ◌≤ℤ◌, Bool, true, false, List, [], ◌∷◌, length, slice_index_or}
+use Rattle.std.specs.Prelude.{◌≡◌, ◌≢◌, ℕ, ℤ, ◌+◌, ◌<◌, ◌≤◌, ◌<ℤ◌, ◌≤ℤ◌, Bool, true, false, List, [], ◌∷◌, drop, length, slice_index, slice_index_or}
+use Rattle.act_base.specs.Sight.{Sight}
 use Rattle.act_grid.specs.declared.Point.{Point}
 use Rattle.act_geom.specs.Inside.{counts, differ}
 use Rattle.act_geom.specs.Walk.{Expects}
@@ -68,6 +69,12 @@ Ends false w words answer = (words ≢ []) × Expects w words answer
 abbrev pub Follows : Trace → Candidate → ℕ → Bool → Trace → Candidate → Type 0
 Follows old before word done new after =
     (words : List ℕ) (answer : Bool) → Expects (walk_of old before) (word ∷ words) answer → Ends done (walk_of new after) words answer
+
+-- what becomes of a candidate's walk by so many words of a row behind a place, where they are the next words of a body
+abbrev pub Passes : Sight → (row place count : ℕ) → Trace → Candidate → Trace → Candidate → Type 0
+Passes x row place count old before new after =
+    (body : List ℕ) (k : ℕ) (answer : Bool) → ((i : ℕ) → i < count → k + i < length body → x.word row (place + 1 + i) ≡ slice_index body (k + i))
+    → Expects (walk_of old before) (drop k body) answer → Expects (walk_of new after) (drop (k + count) body) answer
 
 -- the place is that of the last vertex's row
 pub record IsSet (t : Trace) (cs : List Candidate) : Type 0 where

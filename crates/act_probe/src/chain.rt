@@ -17,17 +17,17 @@ use std::sync::ledger::Ledger;
 /// The words of the greatest body: of 87,381 rings with 262,144 vertices.
 pub(crate) const MOST_WORDS: u64 = 349_526;
 
-/// The words of a row before its last place.
-const LAST_PLACE: u8 = 255;
+/// The last place of a row.
+pub(crate) const LAST_PLACE: u8 = 255;
 
 /// A place in a chain of rows.
 #[derive(Clone, Copy, Debug, PartialEq, Eq)]
 pub(crate) struct Chain {
-    row: u32,
+    pub row: u32,
     next: u32,
     // How many rows were passed, and the place of the last word that was read.
     pub passed: u64,
-    place: u8,
+    pub place: u8,
 }
 
 /// The place before the body in the chain that begins at a row, whose first word was read already.

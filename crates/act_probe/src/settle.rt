@@ -12,7 +12,6 @@ ghost use Rattle.act_probe.specs.Sweeps.{Ascends, IsRun, RunsAscend};
 ghost use Rattle.act_probe.specs.Batches.{Asks, Gathers, Settles, answered, chosen, hit_of};
 
 use crate::buffers::{Candidate, Found, Hit};
-use crate::chain::test;
 use crate::order::order;
 use crate::words::Words;
 use crate::zones::sweep;
@@ -24,7 +23,7 @@ use std::sync::ledger::Ledger;
 /// for all of them asks, is guessed wrong more often than on which side of one row they lie.
 const FEW: usize = 2;
 
-/// Where the candidates of a zone end that begin at a place.
+/// Where the candidates end that are tested together from a place on: all of a zone, or one where they are few.
 fn run_end(candidates: &[Candidate], start: usize) -> usize
     requires { start < length candidates.now }
     ensures more { start < result }
@@ -36,34 +35,13 @@ fn run_end(candidates: &[Candidate], start: usize) -> usize
     while end < candidates.len() && candidates[end].row == row {
         end += 1;
     }
+    if end - start <= FEW {
+        return start + 1;
+    }
     end
 }
 
-/// Tests the candidates of a zone one by one.
-fn test_each<W: Words, L: Ledger>(
-    words: &mut W,
-    run: &mut [Candidate],
-    reads: &mut u64,
-    steps: &mut Steps<L>,
-)
-    requires asks { (zones : ℕ → Zone) × All (λ c. Asks (W.image words.old) (zones c.slot) c) run.old }
-    requires room { reads.old + 699052 * length run.old < 2 ^ 60 }
-    ensures same { words.new ≡ words.old }
-    ensures odd { (zones : ℕ → Zone) → All (λ c. Asks (W.image words.old) (zones c.slot) c) run.old → run.new ≡ map (answered zones) run.old }
-    ensures few { (zones : ℕ → Zone) → All (λ c. Asks (W.image words.old) (zones c.slot) c) run.old
-        → reads.new ≤ reads.old + sum_by (λ c. body_reads (zones c.slot)) run.old }
-    ensures ticks { steps.new + reads.old ≡ steps.old + reads.new }
-    ensures bound { reads.new ≤ reads.old + 699052 * length run.old }
-{
-    for i in 0..run.len() {
-        let c = run[i];
-        let tested = test(words, c.row, c.head, c.point, steps);
-        run[i].odd = tested.inside;
-        *reads += tested.reads;
-    }
-}
-
-/// Tests the candidates of a zone: few of them one by one, and more by one way over the words.
+/// Tests candidates of one zone.
 fn resolve_zone<W: Words, L: Ledger>(
     words: &mut W,
     run: &mut [Candidate],
@@ -82,10 +60,6 @@ fn resolve_zone<W: Words, L: Ledger>(
     ensures ticks { steps.new + reads.old ≡ steps.old + reads.new }
     ensures bound { reads.new ≤ reads.old + 699052 * length run.old }
 {
-    if run.len() <= FEW {
-        test_each(words, run, reads, steps);
-        return;
-    }
     let first = run[0];
     sweep(words, first.row, first.head, run, reads, steps);
 }

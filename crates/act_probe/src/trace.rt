@@ -1,11 +1,11 @@
 //! A way over the words of a body for all candidates of a zone.
 
-ghost use Rattle.std.specs.Prelude.{◌≡◌, ℕ, ◌<◌, ◌≤◌, ◌+ℤ◌, ◌^◌, pos, All, false, length, map, slice_index_or};
+ghost use Rattle.std.specs.Prelude.{◌≡◌, ℕ, ◌+◌, ◌<◌, ◌≤◌, ◌+ℤ◌, ◌^◌, pos, All, false, length, map, slice_index_or};
 ghost use Rattle.act_geom.specs.Body.{vertex_word};
 ghost use Rattle.act_probe.specs.declared.buffers.Candidate.{Candidate};
 
 use crate::buffers::Candidate;
-use crate::sweep::{cross, seek};
+use crate::sweep::{cross, cross_lone, seek};
 use act_grid::Point;
 
 /// Which word comes next.
@@ -56,7 +56,7 @@ fn coordinate(offset: u64) -> i32
 
 impl Trace {
     ghost use Rattle.act_probe.specs.declared.trace.Stage.TheVariants.{Rings, Count, First, Next};
-    ghost use Rattle.act_probe.specs.Sweeps.{Ascends, Follows, IsSet, at_rest};
+    ghost use Rattle.act_probe.specs.Sweeps.{Ascends, Follows, IsSet, at_rest, walk_of};
 
     /// Before the first word.
     pub(crate) fn start() -> Trace
@@ -143,6 +143,67 @@ impl Trace {
             return true;
         }
         false
+    }
+
+    /// How many vertices come before the last one of the ring at hand.
+    #[inline]
+    pub(crate) fn ahead(&self) -> u64
+        ensures stage { 0 < result → self.now.stage ≡ Next }
+        ensures left { 0 < result → result + 1 ≡ self.now.vertices }
+    {
+        match self.stage {
+            Stage::Next => self.vertices.saturating_sub(1),
+            _ => 0,
+        }
+    }
+
+    /// Takes a vertex that isn't the last one of its ring.
+    #[inline]
+    pub(crate) fn feed_inner(&mut self, word: u64, run: &mut [Candidate])
+        requires stage { self.old.stage ≡ Next }
+        requires more { 1 < self.old.vertices }
+        requires ascends { Ascends run.old }
+        requires set { IsSet self.old run.old }
+        ensures follows { (k : ℕ) (d : Candidate) → k < length run.old → Follows self.old (slice_index_or run.old k d) word false self.new (slice_index_or run.new k d) }
+        ensures rest { map at_rest run.new ≡ map at_rest run.old }
+        ensures ascends { Ascends run.new }
+        ensures set { IsSet self.new run.new }
+        ensures stage { self.new.stage ≡ Next }
+        ensures left { self.new.vertices + 1 ≡ self.old.vertices }
+    {
+        let to = vertex(word);
+        self.at = cross(run, self.at, self.last, to);
+        self.last = to;
+        self.vertices -= 1;
+    }
+
+    /// The same for a lone candidate.
+    #[inline]
+    pub(crate) fn feed_lone(&mut self, word: u64, lone: &mut Candidate)
+        requires stage { self.old.stage ≡ Next }
+        requires more { 1 < self.old.vertices }
+        ensures follows { Follows self.old lone.old word false self.new lone.new }
+        ensures rest { at_rest lone.new ≡ at_rest lone.old }
+        ensures at { self.new.at ≡ self.old.at }
+        ensures stage { self.new.stage ≡ Next }
+        ensures left { self.new.vertices + 1 ≡ self.old.vertices }
+    {
+        let to = vertex(word);
+        cross_lone(lone, self.last, to);
+        self.last = to;
+        self.vertices -= 1;
+    }
+
+    /// Finds the place of the last vertex's row among the candidates anew.
+    #[inline]
+    pub(crate) fn set(&mut self, run: &[Candidate])
+        requires ascends { Ascends run.now }
+        requires within { self.old.at ≤ length run.now }
+        ensures same { (c : Candidate) → walk_of self.new c ≡ walk_of self.old c }
+        ensures set { IsSet self.new run.now }
+        ensures stage { self.new.stage ≡ self.old.stage }
+    {
+        self.at = seek(run, self.at, self.last);
     }
 
     /// Takes the next word, and says whether it was the last one. At the last word of a body an odd count
