@@ -1,5 +1,5 @@
 -- Edges that are counted for the candidates of one zone.
-use Rattle.std.proofs.Common.{◌≡◌, ◌≢◌, ◌⊎◌, inl, inr, ℕ, zero, suc, ◌+◌, ◌≤◌, ◌<◌, ◌++◌, Bool, true, false, refl, sym, ap, ◌∙◌, subst, arith, List, [], ◌∷◌, length, map, take, drop, get_or, pos}
+use Rattle.std.proofs.Common.{◌≡◌, ◌≢◌, ◌⊎◌, inl, inr, ℕ, zero, suc, ◌+◌, ◌≤◌, ◌<◌, ◌++◌, Bool, true, false, not, refl, sym, ap, ◌∙◌, subst, arith, List, [], ◌∷◌, length, map, take, drop, get_or, pos}
 use Rattle.std.specs.Prelude.{ℤ, ◌-ℤ◌, ◌*ℤ◌, ◌<ℤ◌, ◌≤ℤ◌, int_lt}
 use Rattle.std.proofs.Math.ListN.{set}
 use Rattle.std.proofs.lemmas.Int.{ints}
@@ -56,11 +56,19 @@ module _ {X : Type 0} (f : X → X) where
   pub whole : (xs : List X) (n : ℕ) → map f (take n xs) ++ map f (drop n xs) ≡ map f xs
   whole xs n = sym (map-append f (take n xs) (drop n xs)) ∙ ap (map f) (take-append-drop n xs)
 
+pub not_true : (b : Bool) → not b ≡ true → b ≡ false
+not_true true e = absurd (cc)
+not_true false e = refl
+
+pub not_false : (b : Bool) → not b ≡ false → b ≡ true
+not_false true e = refl
+not_false false e = absurd (cc)
+
 -- ---- an edge whose ends lie on one side of a row doesn't count
-is_true : (x y : ℤ) → x <ℤ y → int_lt x y ≡ true
+pub is_true : (x y : ℤ) → x <ℤ y → int_lt x y ≡ true
 is_true x y h = grind (arith, ints)
 
-is_false : (x y : ℤ) → y ≤ℤ x → int_lt x y ≡ false
+pub is_false : (x y : ℤ) → y ≤ℤ x → int_lt x y ≡ false
 is_false x y h = grind (arith, ints)
 
 pub is_low : (x y : ℤ) → int_lt x y ≡ true → x <ℤ y
@@ -216,6 +224,14 @@ module _ (a b : Point) where
         pub fall_placed : IsPlacedAt b.y at run
         fall_placed = subst (IsPlacedAt b.y at) (sym fall_all) (still_placed xs b.y at (omega (arith, before, placed.within)) end above)
 
+-- ---- an edge between whose ends there is no candidate
+pub none_crossed : (a b : Point) (xs : List Candidate) (at : ℕ) → IsPlacedAt a.y at xs → IsPlacedAt b.y at xs → xs ≡ map (crossed a b) xs
+none_crossed a b xs at one two =
+    sym (take-append-drop at xs)
+    ∙ ap (λ l. l ++ drop at xs) (sym (fixed_front (crossed a b) xs at (λ k d before inside. passed_below a b (get_or xs k d) (one.below k d before) (two.below k d before))))
+    ∙ ap (λ l. map (crossed a b) (take at xs) ++ l) (sym (fixed_rest (crossed a b) xs at (λ k d past inside. passed_above a b (get_or xs k d) (one.above k d past inside) (two.above k d past inside))))
+    ∙ whole (crossed a b) xs at
+
 -- ---- the place of a row
 pub above_here : (xs : List Candidate) (at : ℕ) (y : ℤ) (d0 : Candidate) → Ascends xs → at ≤ length xs → y ≤ℤ (get_or xs at d0).point.y → IsAboveFrom y at xs
 above_here xs at y d0 up within high = record {
@@ -226,14 +242,21 @@ above_here xs at y d0 up within high = record {
       omega (arith, ints, here, up at k d past inside));
 }
 
+pub high_here : (xs : List Candidate) (m : ℕ) (y : ℤ) (d0 d : Candidate) → m < length xs → y ≤ℤ (get_or xs m d0).point.y → y ≤ℤ (get_or xs m d).point.y
+high_here xs m y d0 d inside high = subst (λ (c : Candidate). y ≤ℤ c.point.y) (get_or_default xs m d0 d inside) high
+
+pub below_here : (xs : List Candidate) (m at : ℕ) (y : ℤ) (d0 : Candidate) → Ascends xs → at ≡ m + 1 → at ≤ length xs → (get_or xs m d0).point.y <ℤ y
+    → (k : ℕ) (d : Candidate) → k < at → (get_or xs k d).point.y <ℤ y
+below_here xs m at y d0 up one within low k d past =
+    let inside : m < length xs = omega (arith, one, within) in
+    let same : (get_or xs m d0).point.y ≡ (get_or xs m d).point.y = ap (λ (c : Candidate). c.point.y) (get_or_default xs m d0 d inside) in
+    let here : (get_or xs m d).point.y <ℤ y = subst (λ v. v <ℤ y) same low in
+    omega (arith, ints, here, up k m d (omega (arith, past, one)) inside)
+
 pub placed_here : (xs : List Candidate) (m at : ℕ) (y : ℤ) (d0 : Candidate) → Ascends xs → at ≡ m + 1 → IsAboveFrom y at xs → (get_or xs m d0).point.y <ℤ y → IsPlacedAt y at xs
 placed_here xs m at y d0 up one above low = record {
   within = above.within;
-  below = λ k d past. (
-      let inside : m < length xs = omega (arith, one, above.within) in
-      let same : (get_or xs m d0).point.y ≡ (get_or xs m d).point.y = ap (λ (c : Candidate). c.point.y) (get_or_default xs m d0 d inside) in
-      let here : (get_or xs m d).point.y <ℤ y = subst (λ v. v <ℤ y) same low in
-      omega (arith, ints, here, up k m d (omega (arith, past, one)) inside));
+  below = below_here xs m at y d0 up one above.within low;
   above = above.above;
 }
 

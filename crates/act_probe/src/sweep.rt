@@ -1,7 +1,8 @@
 //! The candidates of one zone, tested by one way over its words.
 
-ghost use Rattle.std.specs.Prelude.{◌≡◌, ℕ, ◌+◌, ◌<◌, ◌≤◌, ◌-ℤ◌, ◌*ℤ◌, ◌<ℤ◌, ◌≤ℤ◌, int_lt, length, map};
+ghost use Rattle.std.specs.Prelude.{◌<ℤ◌, true, false, slice_index_or, ◌≡◌, ℕ, ◌+◌, ◌<◌, ◌≤◌, ◌-ℤ◌, ◌*ℤ◌, ◌≤ℤ◌, int_lt, length, map};
 ghost use Rattle.act_geom.specs.Inside.{is_left};
+ghost use Rattle.act_probe.specs.declared.buffers.Candidate.{Candidate};
 ghost use Rattle.act_probe.specs.Sweeps.{Ascends, IsAboveFrom, IsPlacedAt, at_rest, crossed};
 
 use crate::buffers::Candidate;
@@ -31,15 +32,36 @@ fn is_below(a: i128, b: i128) -> bool
     a < b
 }
 
-/// Whether a point lies on the left of the way from `a` to `b`. No branch hangs on the coordinates: it would often be
-/// guessed wrong.
-#[inline]
+/// Whether a point lies on the left of the way from `a` to `b`.
 fn is_left(a: Point, b: Point, p: Point) -> bool
     ensures { result ≡ is_left a b p }
 {
     let right = product(difference(a.x, p.x), difference(a.y, b.y));
     let left = product(difference(a.x, b.x), difference(a.y, p.y));
     is_below(right, left)
+}
+
+#[inline]
+fn is_west(x: i32, other: i32) -> bool
+    ensures { result ≡ int_lt x other }
+{
+    x < other
+}
+
+/// Whether the way up from `low` to `high` passes a point between the rows of its ends on the point's right. Both ends lie on
+/// one side of nearly all points: that takes two comparisons, and no branch hangs on the side.
+#[inline]
+fn passes_right(low: Point, high: Point, p: Point) -> bool
+    requires below { low.y ≤ℤ p.y }
+    requires above { p.y <ℤ high.y }
+    ensures { result ≡ is_left low high p }
+{
+    let west = low.x.min(high.x);
+    let east = low.x.max(high.x);
+    if west <= p.x && p.x < east {
+        return is_left(low, high, p);
+    }
+    is_west(p.x, west)
 }
 
 /// Counts an edge up from `a` to `b` for a candidate between the rows of its ends.
@@ -49,7 +71,7 @@ fn flip_up(candidate: &mut Candidate, a: Point, b: Point)
     requires below { candidate.old.point.y <ℤ b.y }
     ensures { candidate.new ≡ crossed a b candidate.old }
 {
-    candidate.odd ^= is_left(a, b, candidate.point);
+    candidate.odd ^= passes_right(a, b, candidate.point);
 }
 
 /// Counts an edge down from `a` to `b` for a candidate between the rows of its ends.
@@ -59,7 +81,7 @@ fn flip_down(candidate: &mut Candidate, a: Point, b: Point)
     requires below { candidate.old.point.y <ℤ a.y }
     ensures { candidate.new ≡ crossed a b candidate.old }
 {
-    candidate.odd ^= is_left(b, a, candidate.point);
+    candidate.odd ^= passes_right(b, a, candidate.point);
 }
 
 /// Whether a candidate's point lies below the row of a vertex.
@@ -103,7 +125,36 @@ fn fall(run: &mut [Candidate], from: usize, a: Point, b: Point) -> usize
     at
 }
 
-/// Counts an edge from `a` to `b`. Only the candidates of the rows between its ends are looked at.
+/// Whether there is a candidate at a place, and it lies below the row of a vertex.
+#[inline]
+fn is_next_under(run: &[Candidate], at: usize, v: Point) -> bool
+    requires ascends { Ascends run.now }
+    requires within { at ≤ length run.now }
+    ensures yes { result ≡ true → (at < length run.now) × ((d : Candidate) → (slice_index_or run.now at d).point.y <ℤ v.y) }
+    ensures no { result ≡ false → IsAboveFrom v.y at run.now }
+{
+    if at == run.len() {
+        return false;
+    }
+    is_under(&run[at], v)
+}
+
+/// Whether there is a candidate before a place, and it doesn't lie below the row of a vertex.
+#[inline]
+fn is_last_above(run: &[Candidate], at: usize, v: Point) -> bool
+    requires ascends { Ascends run.now }
+    requires within { at ≤ length run.now }
+    ensures yes { result ≡ true → (m : ℕ) × (at ≡ m + 1) × ((d : Candidate) → v.y ≤ℤ (slice_index_or run.now m d).point.y) }
+    ensures no { result ≡ false → (k : ℕ) (d : Candidate) → k < at → (slice_index_or run.now k d).point.y <ℤ v.y }
+{
+    if at == 0 {
+        return false;
+    }
+    !is_under(&run[at - 1], v)
+}
+
+/// Counts an edge from `a` to `b`. Only the candidates of the rows between its ends are looked at, and where there are none, it
+/// isn't asked which end is the higher one.
 pub(crate) fn cross(run: &mut [Candidate], at: usize, a: Point, b: Point) -> usize
     requires ascends { Ascends run.old }
     requires placed { IsPlacedAt a.y at run.old }
@@ -112,11 +163,13 @@ pub(crate) fn cross(run: &mut [Candidate], at: usize, a: Point, b: Point) -> usi
     ensures ascends { Ascends run.new }
     ensures rest { map at_rest run.new ≡ map at_rest run.old }
 {
-    if a.y <= b.y {
-        rise(run, at, a, b)
-    } else {
-        fall(run, at, a, b)
+    if is_next_under(run, at, b) {
+        return rise(run, at, a, b);
     }
+    if is_last_above(run, at, b) {
+        return fall(run, at, a, b);
+    }
+    at
 }
 
 /// Counts an edge from `a` to `b` for a lone candidate.
