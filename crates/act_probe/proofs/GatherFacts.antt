@@ -175,7 +175,7 @@ places_more points ways i first within long =
 
 -- words were read for points to come
 pub read_ahead : (x : Sight) (settings : Settings) (state : State) (layers : Layers) (points : List Point) (ahead : ℕ) (old : Found) (reads : ℕ) → Gathers x settings state layers points 0 old
-    → reads ≡ old.reads + ahead → Gathers x settings state layers points ahead (record old { reads = reads })
+    → reads ≤ old.reads + ahead → Gathers x settings state layers points ahead (record old { reads = reads })
 read_ahead x settings state layers points ahead old reads g more = record {
   mets = g.mets;
   holds = record { hits = g.holds.hits; kept = g.holds.kept; candidates = g.holds.candidates; chains = g.holds.chains };

@@ -1,5 +1,10 @@
 -- One step of a way down, and the ways of several points.
-use Rattle.std.proofs.Common.{◌≡◌, ℕ, ◌+◌, ◌*◌, ◌/◌, ◌%◌, ◌-◌, ◌^◌, ◌<◌, ◌≤◌, Option, Some, None, pos, refl, sym, ap, ◌∙◌, subst, arith}
+use Rattle.std.proofs.Common.{◌≡◌, ℕ, ◌+◌, ◌*◌, ◌/◌, ◌%◌, ◌-◌, ◌^◌, ◌<◌, ◌≤◌, ◌++◌, ◌⊎◌, inl, inr, Option, Some, None, pos, refl, sym, ap, ◌∙◌, subst, arith, List, [], ◌∷◌, drop, get_or, length, map, take}
+use Rattle.std.specs.Prelude.{sum_by}
+use Rattle.std.specs.List.{All}
+use Rattle.std.proofs.Math.ListN.{set}
+use Rattle.std.proofs.lemmas.List.{get_or-map, length-map}
+use Rattle.std.proofs.lemmas.List.Sums.{get_or-le-sum_by}
 use Rattle.std.proofs.lemmas.Option.{same_Some}
 use Rattle.act_grid.specs.declared.Point.{Point}
 use Rattle.act_grid.specs.declared.Settings.{Settings}
@@ -7,15 +12,20 @@ use Rattle.act_grid.specs.Cell.{root_cell}
 use Rattle.act_base.specs.Counting.{times}
 use Rattle.act_base.specs.Sight.{Sight}
 use Rattle.act_entry.specs.declared.entry.Entry.{Entry}
-use Rattle.act_entry.specs.Entries.{entry_of}
+use Rattle.act_entry.specs.declared.entry.Entry.TheVariants as entry
+use Rattle.act_entry.specs.Entries.{entry_of, entry_word}
+use Rattle.act_entry.specs.References.{IsRow}
+use Rattle.act_entry.proofs.EntryFacts.{told}
 use Rattle.act_super.specs.declared.entry.State.{State}
 use Rattle.act_super.specs.Nodes.{IsNode}
 use Rattle.act_super.specs.Stands.{Layout, Stands, entry_at}
+use Rattle.act_probe.specs.declared.group.Trunk.{Trunk}
 use Rattle.act_probe.specs.declared.group.Way.{Way}
-use Rattle.act_probe.specs.Groups.{Goes, IsDown, IsOn}
+use Rattle.act_probe.specs.Groups.{Goes, IsDown, IsOn, led}
 use Rattle.act_probe.specs.Ways.{IsReached, IsTop, child_in, over}
 use Rattle.act_probe.proofs.EntryFacts.{goes_down, is_there, no_eighth, read_entry, root_node, root_over}
 use Rattle.act_probe.proofs.StandFacts.{held_node}
+use Rattle.act_probe.proofs.SweepFacts.{front_here, front_more}
 use Rattle.act_probe.proofs.WayFacts.{entry_on}
 
 -- what stands behind the last way of a list
@@ -41,15 +51,22 @@ module _ {settings : Settings} {x : Sight} {root : ℕ} {state : State} (s : Sta
       there (Some below) e = let on = goes_down settings x root state s.served s.layout s.by_rows p id top depth few node below e in (on.0, on.1, refl)
       there None e = is_there settings x root state s.served s.layout s.by_rows p id top depth few node e
 
-  -- the root node is of the image, and each way begins with a word of it
-  pub held_root : 0 < times x.rows root
+  -- the root node is of the image, and each way sets out before it
+  held_root : 0 < times x.rows root
   held_root = rw s.by_rows.top at (held_node settings x root state s.served s.layout s.by_rows root_cell (root_node settings state))
 
-  pub begun : (p : Point) (id place word : ℕ) → IsTop id p → place ≡ id / 2 ^ (53 - 2 * 0) % 256 → word ≡ x.word root place
-      → Goes settings state s.layout 1 (record { point = p; nodes = 1; word = word; id = id })
-  begun p id place word top place_is is =
+  pub root_fits : IsRow root
+  root_fits = let low = s.by_rows.low root held_root in (low.0, omega (arith, low.1))
+
+  pub outset : (p : Point) (id : ℕ) → IsTop id p → Goes settings state s.layout 0 (record { point = p; nodes = 0; word = entry_word (entry.Child root); id = id })
+  outset p id top =
       let over_root = root_over p id top in
-      came p id 0 root place word top (omega arith) (subst (IsNode settings state) (sym over_root) (root_node settings state)) (sym s.by_rows.top ∙ ap s.layout.node (sym over_root)) place_is is
+      record {
+        top = top;
+        entry = entry.Child root;
+        word = told (entry.Child root) root_fits;
+        on = (subst (IsNode settings state) (sym over_root) (root_node settings state), sym s.by_rows.top ∙ ap s.layout.node (sym over_root), refl);
+      }
 
   module _ (depth : ℕ) (way : Way) where
     -- the row of the node ahead is of the image
@@ -90,3 +107,43 @@ module _ {settings : Settings} {x : Sight} {root : ℕ} {state : State} (s : Sta
 pub reached_at : (settings : Settings) (state : State) (layout : Layout) (way : Way) (found : Entry) → ((e : Entry) → entry_of way.word ≡ Some e → found ≡ e) → IsDown settings state layout way
     → IsReached settings state layout way.point found way.nodes
 reached_at settings state layout way found told down = rw (told down.entry down.word) down.reached
+
+-- ---- all ways as far as they lead together
+pub led_all : (trunk : Trunk) (P : Way → Type 0) (ways : List Way) → All (λ (way : Way). P (led trunk way)) ways → All P (map (led trunk) ways)
+led_all trunk P ways all k d within =
+    let inside : k < length ways = omega (arith, within, length-map ways (led trunk)) in
+    subst P (sym (get_or-map (led trunk) ways k d d inside)) (all k d inside)
+
+pub led_sum : (trunk : Trunk) (ways : List Way) → (0 < trunk.nodes → 0 < length ways) → trunk.nodes ≤ sum_by (λ (way : Way). way.nodes) (map (led trunk) ways)
+led_sum trunk ways some = by (sides trunk.nodes)
+  where
+    sides : (n : ℕ) → (n ≡ 0) ⊎ (0 < n)
+    sides n = grind arith
+
+    by : (trunk.nodes ≡ 0) ⊎ (0 < trunk.nodes) → trunk.nodes ≤ sum_by (λ (way : Way). way.nodes) (map (led trunk) ways)
+    by (inl none) = omega (arith, none)
+    by (inr more) =
+        let inside : 0 < length (map (led trunk) ways) = omega (arith, some more, length-map ways (led trunk)) in
+        let first : (get_or (map (led trunk) ways) 0 no_way).nodes ≡ trunk.nodes = ap (λ (way : Way). way.nodes) (get_or-map (led trunk) ways 0 no_way no_way (some more)) in
+        omega (arith, first, get_or-le-sum_by (λ (way : Way). way.nodes) (map (led trunk) ways) 0 no_way inside)
+
+pub led_nodes : (nodes many : ℕ) → nodes ≤ 7 → (0 < nodes → 0 < many) → nodes ≤ 7 * many
+led_nodes nodes many few some = by (sides nodes)
+  where
+    sides : (n : ℕ) → (n ≡ 0) ⊎ (0 < n)
+    sides n = grind arith
+
+    by : (nodes ≡ 0) ⊎ (0 < nodes) → nodes ≤ 7 * many
+    by (inl none) = omega (arith, none)
+    by (inr more) = omega (arith, few, some more)
+
+pub led_begin : (trunk : Trunk) (ways : List Way) → ways ≡ map (led trunk) (take 0 ways) ++ drop 0 ways
+led_begin trunk [] = refl
+led_begin trunk (way ∷ ways) = refl
+
+pub led_more : (trunk : Trunk) (ways now : List Way) (i : ℕ) (d : Way) → i < length ways → now ≡ map (led trunk) (take i ways) ++ drop i ways
+    → set now i (led trunk (get_or now i d)) ≡ map (led trunk) (take (i + 1) ways) ++ drop (i + 1) ways
+led_more trunk ways now i d within is =
+    ap (λ (l : List Way). set l i (led trunk (get_or l i d))) is
+    ∙ ap (λ (way : Way). set (map (led trunk) (take i ways) ++ drop i ways) i (led trunk way)) (front_here (led trunk) ways i d)
+    ∙ front_more (led trunk) ways i d within

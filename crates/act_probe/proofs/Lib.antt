@@ -8,6 +8,7 @@ pub mod StandFacts
 pub mod FoundFacts
 pub mod EntryFacts
 pub mod TellFacts
+pub mod SweepFacts
 pub mod GroupFacts
 pub mod HalfFacts
 pub mod MetFacts
@@ -15,7 +16,6 @@ pub mod SumFacts
 pub mod GatherFacts
 pub mod SettleFacts
 pub mod FinishFacts
-pub mod SweepFacts
 pub mod TraceFacts
 pub mod PassFacts
 pub mod OrderFacts

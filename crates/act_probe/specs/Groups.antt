@@ -6,6 +6,7 @@ use Rattle.act_entry.specs.Entries.{entry_of}
 use Rattle.act_super.specs.declared.entry.State.{State}
 use Rattle.act_super.specs.Nodes.{IsNode}
 use Rattle.act_super.specs.Stands.{Layout}
+use Rattle.act_probe.specs.declared.group.Trunk.{Trunk}
 use Rattle.act_probe.specs.declared.group.Way.{Way}
 use Rattle.act_probe.specs.Ways.{IsReached, IsTop, child_in, over}
 
@@ -21,6 +22,10 @@ pub record Goes (settings : Settings) (state : State) (layout : Layout) (depth :
   pub entry : Entry
   pub word : entry_of way.word ≡ Some entry
   pub on : IsOn settings state layout depth way entry (child_in entry)
+
+-- a way as far as others lead with it
+abbrev pub led : Trunk → Way → Way
+led trunk way = record way { nodes = trunk.nodes; word = trunk.word }
 
 -- the word that was read last is that of the leaf's entry
 pub record IsDown (settings : Settings) (state : State) (layout : Layout) (way : Way) : Type 0 where

@@ -97,7 +97,7 @@ fn meet_group<W: Words, L: Ledger>(
     requires stands { (settings : Settings) × (state : State) × Stands settings (W.image words.old) root state }
     requires places { first + length points.now ≤ 8192 }
     requires room { length buffers.old.found.hits.items + 510 * length points.now < 2 ^ 31 }
-    requires few { buffers.old.found.reads + 774 * length points.now < 2 ^ 59 }
+    requires few { buffers.old.found.reads + 781 * length points.now < 2 ^ 59 }
     ensures same { words.new ≡ words.old }
     ensures ok { OnOk result ((settings : Settings) (state : State) → Stands settings (W.image words.old) root state → (before : List Point) → length before ≡ first
         → Gathers (W.image words.old) settings state layers.now before 0 buffers.old.found
@@ -106,7 +106,7 @@ fn meet_group<W: Words, L: Ledger>(
         → buffers.new.found.reads ≤ buffers.old.found.reads + sum_by (λ p. reads_of settings state p layers.now) points.now }
     ensures ticks { steps.new + buffers.old.found.reads ≡ steps.old + buffers.new.found.reads }
     ensures room { OnOk result (length buffers.new.found.hits.items ≤ length buffers.old.found.hits.items + 510 * length points.now) }
-    ensures bound { buffers.new.found.reads ≤ buffers.old.found.reads + 773 * length points.now }
+    ensures bound { buffers.new.found.reads ≤ buffers.old.found.reads + 780 * length points.now }
 {
     descend_all(
         words,
@@ -158,7 +158,7 @@ fn gather<W: Words, L: Ledger>(
         → buffers.new.found.reads ≤ sum_by (λ p. reads_of settings state p layers.now) points.now }
     ensures ticks { steps.new ≡ steps.old + buffers.new.found.reads }
     ensures room { OnOk result (length buffers.new.found.hits.items ≤ 510 * length points.now) }
-    ensures bound { buffers.new.found.reads ≤ 773 * length points.now }
+    ensures bound { buffers.new.found.reads ≤ 780 * length points.now }
 {
     clear(&mut buffers.found);
     let groups = (points.len() + GROUP - 1) / GROUP;

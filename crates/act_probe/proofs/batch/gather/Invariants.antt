@@ -12,7 +12,7 @@ invariant-loop-k g l = record {
   same : l.words ≡ l.fn.words;
   ticks : l.steps ≡ l.fn.steps + l.buffers.found.reads;
   room : length l.buffers.found.hits.items ≤ 510 * length (take (l.k * 16) l.points);
-  bound : l.buffers.found.reads ≤ 773 * length (take (l.k * 16) l.points);
+  bound : l.buffers.found.reads ≤ 780 * length (take (l.k * 16) l.points);
   few : (settings : Settings) (state : State) → Stands settings (g.W.Words.image l.fn.words) l.fn.root state
       → l.buffers.found.reads ≤ sum_by (λ p. reads_of settings state p l.layers) (take (l.k * 16) l.points);
   at : (settings : Settings) (state : State) → Stands settings (g.W.Words.image l.fn.words) l.fn.root state

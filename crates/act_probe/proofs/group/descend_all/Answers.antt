@@ -4,15 +4,10 @@ use Rattle.act_probe.specs.declared.group.Way.{Way}
 use Rattle.act_probe.proofs.HalfFacts.{written}
 use Rattle.act_probe.proofs.group.descend_all.Goals as goal
 
-pub go_down-requires-clause-go : goal.go_down-requires-clause-go
-go_down-requires-clause-go g c =
-    let r = c.requires.stands in
-    rw (c.begin.ensures.same, c.deref_mut.ensures.value) (c.args.root, r.0, r.1, r.2, c.in_ok-begin.ensures.go r.0 r.1 r.2)
-
 pub returns-clause-down : goal.returns-clause-down
 returns-clause-down g c = λ settings state s.
-    let down = (rw (c.begin.ensures.same, c.deref_mut.ensures.value) at c.go_down.ensures.down) c.args.root settings state s (c.in_ok-begin.ensures.go settings state s) in
-    let points = rw c.deref_mut.ensures.value at c.go_down.ensures.points in
-    let long : length c.go_down.new.ways ≡ length c.begin.new.ways.items =
-    sym (length-map c.go_down.new.ways (λ (way : Way). way.point)) ∙ ap length points ∙ length-map c.begin.new.ways.items (λ (way : Way). way.point) in
-    rw (written c.begin.new.ways.items c.go_down.new.ways c.begin.new.ways.len long (omega (arith, c.deref_mut.ensures.len, ap (λ (l : List Way). length l) c.deref_mut.ensures.value))) down
+    let down = c.go_all.ensures.down settings state s in
+    let points = rw c.deref_mut.ensures.value at c.go_all.ensures.points in
+    let long : length c.go_all.new.ways ≡ length c.begin.new.ways.items =
+    sym (length-map c.go_all.new.ways (λ (way : Way). way.point)) ∙ ap length points ∙ length-map c.begin.new.ways.items (λ (way : Way). way.point) in
+    rw (written c.begin.new.ways.items c.go_all.new.ways c.begin.new.ways.len long (omega (arith, c.deref_mut.ensures.len, ap (λ (l : List Way). length l) c.deref_mut.ensures.value))) down

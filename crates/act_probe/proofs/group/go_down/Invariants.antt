@@ -11,9 +11,9 @@ abbrev pub invariant-loop-depth : goal.invariant-loop-depth
 invariant-loop-depth g l = record {
   same : l.words ≡ l.fn.words;
   ticks : l.steps + l.fn.reads ≡ l.fn.steps + l.reads;
-  bound : l.reads + length l.fn.ways ≤ l.fn.reads + l.depth * length l.fn.ways;
+  bound : l.reads ≤ l.fn.reads + l.depth * length l.fn.ways;
   count : l.reads + sum_by (λ (way : Way). way.nodes) l.fn.ways ≡ l.fn.reads + sum_by (λ (way : Way). way.nodes) l.ways;
   points : map (λ (way : Way). way.point) l.ways ≡ map (λ (way : Way). way.point) l.fn.ways;
-  at : (root : ℕ) (settings : Settings) (state : State) (s : Stands settings (g.W.Words.image l.fn.words) root state) → All (Goes settings state s.layout 1) l.fn.ways
+  at : (root : ℕ) (settings : Settings) (state : State) (s : Stands settings (g.W.Words.image l.fn.words) root state) → All (Goes settings state s.layout l.fn.from) l.fn.ways
       → All (Goes settings state s.layout l.depth) l.ways;
 }
