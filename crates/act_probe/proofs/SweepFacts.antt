@@ -5,8 +5,10 @@ use Rattle.std.proofs.Math.ListN.{set}
 use Rattle.std.proofs.lemmas.Int.{ints}
 use Rattle.std.proofs.lemmas.Simd.{map-map}
 use Rattle.std.proofs.lemmas.List.{get_or_default, length-map, map-append, take-append-drop}
+use mathlib.Core.Bool.{beq}
 use Rattle.act_grid.specs.declared.Point.{Point}
 use Rattle.act_geom.specs.Inside.{counts, differ, is_left}
+use Rattle.act_geom.proofs.Passing.{passes_east, passes_west}
 use Rattle.act_probe.specs.declared.buffers.Candidate.{Candidate}
 use Rattle.act_probe.specs.Sweeps.{Ascends, IsAboveFrom, IsPlacedAt, at_rest, crossed}
 
@@ -65,10 +67,10 @@ not_false true e = refl
 not_false false e = absurd (cc)
 
 -- ---- an edge whose ends lie on one side of a row doesn't count
-pub is_true : (x y : ℤ) → x <ℤ y → int_lt x y ≡ true
+is_true : (x y : ℤ) → x <ℤ y → int_lt x y ≡ true
 is_true x y h = grind (arith, ints)
 
-pub is_false : (x y : ℤ) → y ≤ℤ x → int_lt x y ≡ false
+is_false : (x y : ℤ) → y ≤ℤ x → int_lt x y ≡ false
 is_false x y h = grind (arith, ints)
 
 pub is_low : (x y : ℤ) → int_lt x y ≡ true → x <ℤ y
@@ -104,6 +106,17 @@ passed_below a b c low high = passed a b c (both_above c.point a b low high)
 
 pub passed_above : (a b : Point) (c : Candidate) → a.y ≤ℤ c.point.y → b.y ≤ℤ c.point.y → crossed a b c ≡ c
 passed_above a b c low high = passed a b c (none_above c.point a b low high)
+
+pub both_same : (b c : Bool) → not (beq b c) ≡ false → b ≡ c
+both_same true true e = refl
+both_same true false e = absurd (cc)
+both_same false true e = absurd (cc)
+both_same false false e = refl
+
+-- both ends of a way up lie right of the point, or neither does
+pub one_side : (low high p : Point) (right : Bool) → right ≡ int_lt p.x low.x → right ≡ int_lt p.x high.x → low.y ≤ℤ p.y → p.y <ℤ high.y → right ≡ is_left low high p
+one_side low high p true one two below above = sym (passes_east low high p (is_low _ _ (sym one)) (is_low _ _ (sym two)) below above)
+one_side low high p false one two below above = sym (passes_west low high p (is_high _ _ (sym one)) (is_high _ _ (sym two)) below above)
 
 -- ---- the points stay
 module _ (a b : Point) where

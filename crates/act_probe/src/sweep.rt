@@ -56,12 +56,11 @@ fn passes_right(low: Point, high: Point, p: Point) -> bool
     requires above { p.y <ℤ high.y }
     ensures { result ≡ is_left low high p }
 {
-    let west = low.x.min(high.x);
-    let east = low.x.max(high.x);
-    if west <= p.x && p.x < east {
+    let right = is_west(p.x, low.x);
+    if right != is_west(p.x, high.x) {
         return is_left(low, high, p);
     }
-    is_west(p.x, west)
+    right
 }
 
 /// Counts an edge up from `a` to `b` for a candidate between the rows of its ends.
