@@ -63,7 +63,7 @@ def main():
             told([s2] + cases, found, 's2')
             told([native] + cases, found, 'native')
         for (name, how, side), rates in found.items():
-            beside = statistics.median(found[name, 'one', 'geos'])
+            beside = statistics.median(found[name.removeprefix('fine-'), 'one', 'geos'])
             rate = statistics.median(rates)
             print(f'{name} {how} {side}: {rate:.2f} million points a second, {rate / beside:.1f} times GEOS')
     shutil.rmtree(scratch)
