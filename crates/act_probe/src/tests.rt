@@ -42,14 +42,20 @@ fn no_zones(rt: HostRuntime) -> Result<(), Fail> {
     Ok(())
 }
 
-/// How many pairs twenty points have, and how many words are read.
-fn joined<L: Ledger>(alloc: Global, blank: Blank) -> Result<(usize, u64), NoMemory>
+/// How many pairs twenty points have, of which each group has one elsewhere, and how many words are read.
+fn joined<L: Ledger>(
+    alloc: Global,
+    blank: Blank,
+    elsewhere: Point,
+) -> Result<(usize, u64), NoMemory>
     requires name { blank.name ≡ L.name }
     requires parts { (blank.parts ≡ L.parts) × (0 < L.parts) }
 {
     let mut steps = Steps::<L>::new(blank);
     let mut buffers = Buffers::new(alloc);
-    let points = [Point { x: 3, y: -4 }; 20];
+    let mut points = [Point { x: 3, y: -4 }; 20];
+    points[7] = elsewhere;
+    points[17] = elsewhere;
     let reads = probe_batch(
         &mut Zeros,
         1,
@@ -63,8 +69,17 @@ fn joined<L: Ledger>(alloc: Global, blank: Blank) -> Result<(usize, u64), NoMemo
 
 #[test]
 fn no_pairs(rt: HostRuntime) -> Result<(), Fail> {
-    let (pairs, reads) = joined::<Brand>(rt.alloc(), Blank::new(1))?;
+    let (pairs, reads) = joined::<Brand>(rt.alloc(), Blank::new(1), Point { x: -3, y: 4 })?;
     assert_eq!(rt; pairs, 0);
     assert_eq!(rt; reads, 20);
+    Ok(())
+}
+
+#[test]
+fn no_pairs_together(rt: HostRuntime) -> Result<(), Fail> {
+    let (pairs, reads) = joined::<Brand>(rt.alloc(), Blank::new(1), Point { x: 4, y: -3 })?;
+    assert_eq!(rt; pairs, 0);
+    // Each of the two groups reads the word of the root node once.
+    assert_eq!(rt; reads, 2);
     Ok(())
 }
