@@ -30,14 +30,14 @@ on_way walk body k answer expects = by (sides k (length body))
     by (inl within) = within
     by (inr past) = absurd (not_at_end walk answer (rw (drop_all k body past) at expects))
 
-module _ (x : Sight) (row place : ℕ) where
-  pub passes_none : (t : Trace) (c : Candidate) → Passes x row place 0 t c t c
+module _ (next : List ℕ) where
+  pub passes_none : (t : Trace) (c : Candidate) → Passes next 0 t c t c
   passes_none t c = λ body k answer words e.
       let none : k ≡ k + 0 = omega arith in
       rw none at e
 
-  pub passes_more : (n : ℕ) (t u v : Trace) (b c d : Candidate) (word : ℕ) → word ≡ x.word row (place + 1 + n) → Passes x row place n t b u c → Follows u c word false v d
-      → Passes x row place (n + 1) t b v d
+  pub passes_more : (n : ℕ) (t u v : Trace) (b c d : Candidate) (word : ℕ) → word ≡ get_or next n 0 → Passes next n t b u c → Follows u c word false v d
+      → Passes next (n + 1) t b v d
   passes_more n t u v b c d word is passes follows = λ body k answer words e.
       let here = passes body k answer (λ i below within. words i (omega (arith, below)) within) e in
       let within = on_way (walk_of u c) body (k + n) answer here in
@@ -47,11 +47,11 @@ module _ (x : Sight) (row place : ℕ) where
       rw (← more) (follows (drop (k + n + 1) body) answer (rw (told, one) (rw (drop-cons body (k + n) 0 within) at here))).1
 
 -- the words that stand in the row at hand were taken for each candidate
-pub on_ahead : (x : Sight) (first : ℕ) (zones : ℕ → Zone) (origin : List Candidate) (all : All (λ (c : Candidate). ChainAt x (zones c.slot) first) origin) (chain : Chain) (t u : Trace) (old new : List Candidate)
-    (k n : ℕ) → chain.place + n ≤ 255 → IsOn x first zones origin all chain t old k
-    → ((j : ℕ) (d : Candidate) → j < length origin → Passes x chain.row chain.place n t (get_or old j d) u (get_or new j d))
+pub on_ahead : (x : Sight) (next : List ℕ) (first : ℕ) (zones : ℕ → Zone) (origin : List Candidate) (all : All (λ (c : Candidate). ChainAt x (zones c.slot) first) origin) (chain : Chain) (t u : Trace) (old new : List Candidate)
+    (k n : ℕ) → chain.place + n ≤ 255 → ((i : ℕ) → i < n → get_or next i 0 ≡ x.word chain.row (chain.place + 1 + i)) → IsOn x first zones origin all chain t old k
+    → ((j : ℕ) (d : Candidate) → j < length origin → Passes next n t (get_or old j d) u (get_or new j d))
     → IsOn x first zones origin all (record chain { place = chain.place + n }) u new (k + n)
-on_ahead x first zones origin all chain t u old new k n within on passes = λ i d inside.
+on_ahead x next first zones origin all chain t u old new k n within are on passes = λ i d inside.
     let zone = zones (get_or origin i d).slot in
     let c = all i d inside in
     let answer = is_inside zone.shape (get_or origin i d).point in
@@ -60,7 +60,7 @@ on_ahead x first zones origin all chain t u old new k n within on passes = λ i 
       passes i d inside (body_of zone.shape) k answer (λ m below inner.
           let e : chain.place + 1 + m ≡ chain.place + m + 1 = omega arith in
           let here = at_ahead x zone first c chain.row chain.next chain.passed chain.place k m (omega (arith, below, within)) at.0 in
-          rw e (word_here x zone first c chain.row chain.next chain.passed (chain.place + m) (k + m) inner here (omega (arith, below, within)))) at.1,
+          are m below ∙ rw e (word_here x zone first c chain.row chain.next chain.passed (chain.place + m) (k + m) inner here (omega (arith, below, within)))) at.1,
     )
 
 -- a word was taken for each candidate, and was not the last one

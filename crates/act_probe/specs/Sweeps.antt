@@ -1,6 +1,5 @@
 -- The candidates of one zone, tested by one way over its words.
 use Rattle.std.specs.Prelude.{◌≡◌, ◌≢◌, ℕ, ℤ, ◌+◌, ◌<◌, ◌≤◌, ◌<ℤ◌, ◌≤ℤ◌, Bool, true, false, List, [], ◌∷◌, drop, length, slice_index, slice_index_or}
-use Rattle.act_base.specs.Sight.{Sight}
 use Rattle.act_grid.specs.declared.Point.{Point}
 use Rattle.act_geom.specs.Inside.{counts, differ}
 use Rattle.act_geom.specs.Walk.{Expects}
@@ -70,10 +69,10 @@ abbrev pub Follows : Trace → Candidate → ℕ → Bool → Trace → Candidat
 Follows old before word done new after =
     (words : List ℕ) (answer : Bool) → Expects (walk_of old before) (word ∷ words) answer → Ends done (walk_of new after) words answer
 
--- what becomes of a candidate's walk by so many words of a row behind a place, where they are the next words of a body
-abbrev pub Passes : Sight → (row place count : ℕ) → Trace → Candidate → Trace → Candidate → Type 0
-Passes x row place count old before new after =
-    (body : List ℕ) (k : ℕ) (answer : Bool) → ((i : ℕ) → i < count → k + i < length body → x.word row (place + 1 + i) ≡ slice_index body (k + i))
+-- what becomes of a candidate's walk by the first of these words, where they are the next words of a body
+abbrev pub Passes : (next : List ℕ) (count : ℕ) → Trace → Candidate → Trace → Candidate → Type 0
+Passes next count old before new after =
+    (body : List ℕ) (k : ℕ) (answer : Bool) → ((i : ℕ) → i < count → k + i < length body → slice_index next i ≡ slice_index body (k + i))
     → Expects (walk_of old before) (drop k body) answer → Expects (walk_of new after) (drop (k + count) body) answer
 
 -- the place is that of the last vertex's row

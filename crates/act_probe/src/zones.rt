@@ -1,6 +1,6 @@
 //! The candidates of each zone, tested together.
 
-ghost use Rattle.std.specs.Prelude.{◌≡◌, ℕ, ◌+◌, ◌<◌, ◌≤◌, ◌^◌, All, List, false, length, map, slice_index_or};
+ghost use Rattle.std.specs.Prelude.{◌≡◌, ℕ, ◌+◌, ◌<◌, ◌≤◌, ◌^◌, All, List, false, length, map, slice_index, slice_index_or};
 ghost use Rattle.act_base.specs.Counting.{times};
 ghost use Rattle.act_super.specs.declared.entry.Zone.{Zone};
 ghost use Rattle.act_probe.specs.declared.buffers.Candidate.{Candidate};
@@ -18,99 +18,84 @@ use crate::words::Words;
 use act_base::Steps;
 use std::sync::ledger::Ledger;
 
-/// Takes so many words of a row behind a place, for all candidates: vertices, and none is the last one of its ring.
-fn pass_all<W: Words, L: Ledger>(
+/// How many words of a body a row has at most.
+pub(crate) const ROOM: usize = 255;
+
+/// Reads the words of a row behind a place, one right after the other: none waits for what another one decides.
+fn read_row<W: Words, L: Ledger>(
     words: &mut W,
     row: u32,
     place: u8,
-    count: u8,
-    trace: &mut Trace,
-    run: &mut [Candidate],
+    body: &mut [u64],
     steps: &mut Steps<L>,
 )
     requires held { 0 < times (W.image words.old).rows row }
-    requires within { place + count ≤ 255 }
+    requires within { place + length body.old ≤ 255 }
+    ensures same { words.new ≡ words.old }
+    ensures body { (i : ℕ) → i < length body.new → slice_index body.new i ≡ (W.image words.old).word row (place + 1 + i) }
+    ensures long { length body.new ≡ length body.old }
+    ensures ticks { steps.new ≡ steps.old + length body.old }
+{
+    for i in 0..body.len() {
+        body[i] = words.word(row, place + 1 + i as u8, steps);
+    }
+}
+
+/// Takes words of a body for all candidates: vertices, and none is the last one of its ring.
+fn pass_all(body: &[u64], trace: &mut Trace, run: &mut [Candidate])
     requires stage { trace.old.stage ≡ Next }
-    requires more { count < trace.old.vertices }
+    requires more { length body.now < trace.old.vertices }
     requires ascends { Ascends run.old }
     requires set { IsSet trace.old run.old }
-    ensures same { words.new ≡ words.old }
-    ensures passes { (j : ℕ) (d : Candidate) → j < length run.old → Passes (W.image words.old) row place count trace.old (slice_index_or run.old j d) trace.new (slice_index_or run.new j d) }
+    ensures passes { (j : ℕ) (d : Candidate) → j < length run.old → Passes body.now (length body.now) trace.old (slice_index_or run.old j d) trace.new (slice_index_or run.new j d) }
     ensures rest { map at_rest run.new ≡ map at_rest run.old }
     ensures ascends { Ascends run.new }
     ensures set { IsSet trace.new run.new }
     ensures stage { trace.new.stage ≡ Next }
-    ensures ticks { steps.new ≡ steps.old + count }
 {
     let mut now = *trace;
-    for i in 0..count {
-        let word = words.word(row, place + 1 + i, steps);
-        now.feed_inner(word, run);
+    for word in body {
+        now.feed_inner(*word, run);
     }
     *trace = now;
 }
 
 /// The same for a lone candidate. The place of the last vertex's row among the candidates is left as it was.
-fn pass_lone<W: Words, L: Ledger>(
-    words: &mut W,
-    row: u32,
-    place: u8,
-    count: u8,
-    trace: &mut Trace,
-    candidate: &mut Candidate,
-    steps: &mut Steps<L>,
-)
-    requires held { 0 < times (W.image words.old).rows row }
-    requires within { place + count ≤ 255 }
+fn pass_lone(body: &[u64], trace: &mut Trace, candidate: &mut Candidate)
     requires stage { trace.old.stage ≡ Next }
-    requires more { count < trace.old.vertices }
-    ensures same { words.new ≡ words.old }
-    ensures passes { Passes (W.image words.old) row place count trace.old candidate.old trace.new candidate.new }
+    requires more { length body.now < trace.old.vertices }
+    ensures passes { Passes body.now (length body.now) trace.old candidate.old trace.new candidate.new }
     ensures rest { at_rest candidate.new ≡ at_rest candidate.old }
     ensures at { trace.new.at ≡ trace.old.at }
     ensures stage { trace.new.stage ≡ Next }
-    ensures ticks { steps.new ≡ steps.old + count }
 {
     let mut now = *trace;
     let mut lone = *candidate;
-    for i in 0..count {
-        let word = words.word(row, place + 1 + i, steps);
-        now.feed_lone(word, &mut lone);
+    for word in body {
+        now.feed_lone(*word, &mut lone);
     }
     *trace = now;
     *candidate = lone;
 }
 
-/// Takes so many words of a row behind a place.
-fn pass_row<W: Words, L: Ledger>(
-    words: &mut W,
-    row: u32,
-    place: u8,
-    count: u8,
-    trace: &mut Trace,
-    run: &mut [Candidate],
-    steps: &mut Steps<L>,
-)
-    requires held { 0 < times (W.image words.old).rows row }
-    requires within { place + count ≤ 255 }
+/// Takes words of a body.
+fn pass_words(body: &[u64], trace: &mut Trace, run: &mut [Candidate])
     requires stage { trace.old.stage ≡ Next }
-    requires more { count < trace.old.vertices }
+    requires more { length body.now < trace.old.vertices }
     requires ascends { Ascends run.old }
     requires set { IsSet trace.old run.old }
-    ensures same { words.new ≡ words.old }
-    ensures passes { (j : ℕ) (d : Candidate) → j < length run.old → Passes (W.image words.old) row place count trace.old (slice_index_or run.old j d) trace.new (slice_index_or run.new j d) }
+    ensures passes { (j : ℕ) (d : Candidate) → j < length run.old → Passes body.now (length body.now) trace.old (slice_index_or run.old j d) trace.new (slice_index_or run.new j d) }
     ensures rest { map at_rest run.new ≡ map at_rest run.old }
     ensures ascends { Ascends run.new }
     ensures set { IsSet trace.new run.new }
     ensures stage { trace.new.stage ≡ Next }
-    ensures ticks { steps.new ≡ steps.old + count }
 {
     if run.len() == 1 {
-        pass_lone(words, row, place, count, trace, &mut run[0], steps);
+        pass_lone(body, trace, &mut run[0]);
         trace.set(run);
         return;
     }
-    pass_all(words, row, place, count, trace, run, steps);
+    pass_all(body, trace, run);
 }
 
 /// Takes the vertices that stand in the row at hand, up to the last one of their ring, and says how many words it took.
@@ -119,6 +104,7 @@ fn pass<W: Words, L: Ledger>(
     first: u32,
     chain: &mut Chain,
     trace: &mut Trace,
+    buffer: &mut [u64; ROOM],
     run: &mut [Candidate],
     steps: &mut Steps<L>,
 ) -> u64
@@ -143,7 +129,9 @@ fn pass<W: Words, L: Ledger>(
     if count == 0 {
         return 0;
     }
-    pass_row(words, chain.row, chain.place, count, trace, run, steps);
+    let body = &mut buffer[..usize::from(count)];
+    read_row(words, chain.row, chain.place, body, steps);
+    pass_words(body, trace, run);
     chain.place += count;
     u64::from(count)
 }
@@ -154,6 +142,7 @@ pub(crate) fn sweep<W: Words, L: Ledger>(
     words: &mut W,
     row: u32,
     head: u64,
+    buffer: &mut [u64; ROOM],
     run: &mut [Candidate],
     reads: &mut u64,
     steps: &mut Steps<L>,
@@ -181,7 +170,7 @@ pub(crate) fn sweep<W: Words, L: Ledger>(
             *reads += k + chain.passed;
             return;
         }
-        k += pass(words, row, &mut chain, &mut trace, run, steps);
+        k += pass(words, row, &mut chain, &mut trace, buffer, run, steps);
     }
     // No body has more words.
     *reads += k + chain.passed;

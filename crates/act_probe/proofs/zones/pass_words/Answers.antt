@@ -4,10 +4,10 @@ use Rattle.std.proofs.lemmas.List.{get_or_default}
 use Rattle.act_geom.specs.Walk.{Expects}
 use Rattle.act_probe.specs.declared.buffers.Candidate.{Candidate}
 use Rattle.act_probe.specs.Sweeps.{walk_of}
-use Rattle.act_probe.proofs.zones.pass_row.Goals as goal
+use Rattle.act_probe.proofs.zones.pass_words.Goals as goal
 
 pub returns-then-run-eq1-clause-passes : goal.returns-then-run-eq1-clause-passes
-returns-then-run-eq1-clause-passes g c = λ j d within body k answer words e.
+returns-then-run-eq1-clause-passes c = λ j d within body k answer words e.
     let first : j ≡ 0 = omega (arith, within, c.if-run-eq1.true) in
     let lone : Candidate = c.pass_lone.new.candidate in
     let new : get_or (set c.args.run.now 0 lone) j d ≡ lone = ap (λ n. get_or (set c.args.run.now 0 lone) n d) first ∙ get_or-set_same c.args.run.now 0 lone d (omega (arith, c.if-run-eq1.true)) in
