@@ -21,3 +21,4 @@ pub mod PassFacts
 pub mod OrderFacts
 pub mod KeyFacts
 pub mod ResolveFacts
+pub mod DealFacts

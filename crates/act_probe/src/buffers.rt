@@ -35,6 +35,7 @@ pub(crate) struct Found {
     pub candidates: Vec<Candidate>,
     /// What brings the candidates into their order.
     pub keys: Vec<u64>,
+    pub dealt: Vec<u64>,
     pub spare: Vec<Candidate>,
     /// How many words were read.
     pub reads: u64,
@@ -55,6 +56,7 @@ impl Buffers {
             kept: Vec::new(alloc),
             candidates: Vec::new(alloc),
             keys: Vec::new(alloc),
+            dealt: Vec::new(alloc),
             spare: Vec::new(alloc),
             reads: 0,
         };

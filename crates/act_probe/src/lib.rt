@@ -18,6 +18,7 @@
 mod batch;
 mod buffers;
 mod chain;
+mod deal;
 mod descent;
 mod group;
 mod keys;

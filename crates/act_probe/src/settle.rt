@@ -151,7 +151,12 @@ pub(crate) fn finish<W: Words, L: Ledger>(
     ensures ticks { steps.new + found.old.reads ≡ steps.old + found.new.reads }
     ensures bound { found.new.reads < 2 ^ 48 }
 {
-    order(&mut found.candidates, &mut found.keys, &mut found.spare)?;
+    order(
+        &mut found.candidates,
+        &mut found.keys,
+        &mut found.dealt,
+        &mut found.spare,
+    )?;
     resolve(words, &mut found.candidates, &mut found.reads, steps);
     keep(&mut found.kept, &found.candidates);
     compact(&mut found.hits, &found.kept);

@@ -1,7 +1,8 @@
-//! Points of an image without zones.
+//! Points of an image without zones, and keys that are dealt.
 
 ghost use Rattle.std.specs.Prelude.{◌≡◌, ℕ, ◌<◌, ◌∷◌, []};
 
+use crate::deal::deal_keys;
 use crate::{Buffers, Keys, Words, probe, probe_batch};
 use act_base::Steps;
 use act_grid::{Layers, NoMemory, Point};
@@ -81,5 +82,26 @@ fn no_pairs_together(rt: HostRuntime) -> Result<(), Fail> {
     assert_eq!(rt; pairs, 0);
     // Each of the two groups reads the word of the root node once.
     assert_eq!(rt; reads, 2);
+    Ok(())
+}
+
+/// Whether a thousand keys are put in their order by dealing, and the first and the last of them after it.
+fn dealt(alloc: Global) -> Result<(bool, Option<u64>, Option<u64>), NoMemory> {
+    let mut keys = Vec::new(alloc);
+    for place in 0..1000u64 {
+        keys.push((place * 7919 % 1000) * 0x1_0000_0000 + place)?;
+    }
+    let mut dealt = Vec::new(alloc);
+    let done = deal_keys(&mut keys, &mut dealt)?;
+    Ok((done, keys.first().copied(), keys.last().copied()))
+}
+
+#[test]
+fn deals_keys(rt: HostRuntime) -> Result<(), Fail> {
+    let (done, first, last) = dealt(rt.alloc())?;
+    assert!(rt; done);
+    assert_eq!(rt; first, Some(0));
+    // 321 * 7919 is 2541999.
+    assert_eq!(rt; last, Some(999 * 0x1_0000_0000 + 321));
     Ok(())
 }
