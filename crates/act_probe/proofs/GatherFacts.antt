@@ -174,6 +174,15 @@ places_more points ways i first within long =
     length-append points (map (λ (way : Way). way.point) (take i ways)) ∙ omega (arith, long, within, length-map (take i ways) (λ (way : Way). way.point), length-take i ways)
 
 -- words were read for points to come
+pub gathered_still : (x : Sight) (settings : Settings) (state : State) (layers : Layers) (points : List Point) (ahead : ℕ) (old new : Found) → Gathers x settings state layers points ahead old
+    → new.hits.items ≡ old.hits.items → new.kept.items ≡ old.kept.items → new.candidates.items ≡ old.candidates.items → new.reads ≡ old.reads → Gathers x settings state layers points ahead new
+gathered_still x settings state layers points ahead old new g hits kept candidates reads = record {
+  mets = g.mets;
+  holds = record { hits = hits ∙ g.holds.hits; kept = kept ∙ g.holds.kept; candidates = candidates ∙ g.holds.candidates; chains = g.holds.chains };
+  are = g.are;
+  few = omega (arith, reads, g.few);
+}
+
 pub read_ahead : (x : Sight) (settings : Settings) (state : State) (layers : Layers) (points : List Point) (ahead : ℕ) (old : Found) (reads : ℕ) → Gathers x settings state layers points 0 old
     → reads ≤ old.reads + ahead → Gathers x settings state layers points ahead (record old { reads = reads })
 read_ahead x settings state layers points ahead old reads g more = record {

@@ -1,5 +1,5 @@
 -- Batches of points, and the pairs of points with zones.
-use Rattle.std.specs.Prelude.{◌≡◌, ◌⊎◌, ℕ, ◌+◌, ◌<◌, ◌≤◌, ◌++◌, Contains, length, slice_index_or, [], ◌∷◌, ◌||◌, Bool, false, cond, List, All, filter, map, sum_by}
+use Rattle.std.specs.Prelude.{◌≡◌, ◌⊎◌, ℕ, ◌+◌, ◌<◌, ◌≤◌, ◌++◌, Contains, length, slice_index_or, [], ◌∷◌, ◌||◌, Bool, false, cond, List, All, filter, map, sum_by, vec_capacity}
 use Rattle.act_grid.specs.declared.layers.Layers.{Layers}
 use Rattle.act_grid.specs.declared.Point.{Point}
 use Rattle.act_grid.specs.declared.Settings.{Settings}
@@ -61,6 +61,21 @@ candidate_of x i m = record { head = x.word m.row 0; row = m.row; slot = i; poin
 abbrev pub candidates_from : Sight → ℕ → List Met → List Candidate
 candidates_from x i [] = []
 candidates_from x i (m ∷ mets) = cond m.hit [] (candidate_of x i m ∷ []) ++ candidates_from x (i + 1) mets
+
+-- each of the three buffers has room for n more
+pub record HasRoom (found : Found) (n : ℕ) : Type 0 where
+  pub hits : length found.hits.items + n ≤ vec_capacity found.hits
+  pub kept : length found.kept.items + n ≤ vec_capacity found.kept
+  pub candidates : length found.candidates.items + n ≤ vec_capacity found.candidates
+
+-- at most n were put into each of them, which has room for as many in all as before
+pub record Grows (old new : Found) (n : ℕ) : Type 0 where
+  pub hits : length new.hits.items ≤ length old.hits.items + n
+  pub kept : length new.kept.items ≤ length old.kept.items + n
+  pub candidates : length new.candidates.items ≤ length old.candidates.items + n
+  pub hits_room : vec_capacity new.hits ≡ vec_capacity old.hits
+  pub kept_room : vec_capacity new.kept ≡ vec_capacity old.kept
+  pub candidates_room : vec_capacity new.candidates ≡ vec_capacity old.candidates
 
 -- these were found, and no candidate was tested
 pub record Holds (x : Sight) (found : Found) (mets : List Met) : Type 0 where

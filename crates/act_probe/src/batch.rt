@@ -8,11 +8,12 @@ ghost use Rattle.act_super.specs.Joins.{join};
 ghost use Rattle.act_super.specs.Stands.{Stands};
 ghost use Rattle.act_probe.specs.Reads.{reads_of};
 ghost use Rattle.act_probe.specs.Groups.{IsDown};
-ghost use Rattle.act_probe.specs.Batches.{Gathers, hits_in};
+ghost use Rattle.act_probe.specs.Batches.{Gathers, Grows, HasRoom, hits_in};
 
 use crate::buffers::{Buffers, Found};
 use crate::descent::entry_in;
 use crate::group::{Way, descend_all};
+use crate::keys::MOST_KEYS;
 use crate::meet::meet_entry;
 use crate::settle::finish;
 use crate::words::Words;
@@ -24,6 +25,7 @@ use std::sync::ledger::Ledger;
 const GROUP: usize = 16;
 
 /// Takes the references of the leaf that a way has reached.
+#[inline]
 fn meet_way<W: Words, L: Ledger>(
     words: &mut W,
     way: &Way,
@@ -31,25 +33,25 @@ fn meet_way<W: Words, L: Ledger>(
     layers: &Layers,
     found: &mut Found,
     steps: &mut Steps<L>,
-) -> Result<(), NoMemory>
+)
     requires down { (root : ℕ) × (settings : Settings) × (state : State) × (s : Stands settings (W.image words.old) root state)
         × IsDown settings state s.layout way.now }
     requires room { length found.old.hits.items < 2 ^ 31 }
+    requires space { HasRoom found.old 510 }
     requires few { found.old.reads < 2 ^ 59 }
     ensures same { words.new ≡ words.old }
-    ensures ok { OnOk result ((root : ℕ) (settings : Settings) (state : State) (s : Stands settings (W.image words.old) root state) (points : List Point) (ahead : ℕ)
+    ensures ok { (root : ℕ) (settings : Settings) (state : State) (s : Stands settings (W.image words.old) root state) (points : List Point) (ahead : ℕ)
         → IsDown settings state s.layout way.now → length points ≡ place
         → Gathers (W.image words.old) settings state layers.now points (way.now.nodes + ahead) found.old
-        → Gathers (W.image words.old) settings state layers.now (points ++ way.now.point ∷ []) ahead found.new) }
+        → Gathers (W.image words.old) settings state layers.now (points ++ way.now.point ∷ []) ahead found.new }
     ensures few { (root : ℕ) (settings : Settings) (state : State) (s : Stands settings (W.image words.old) root state)
         → IsDown settings state s.layout way.now → found.new.reads + way.now.nodes ≤ found.old.reads + reads_of settings state way.now.point layers.now }
     ensures ticks { steps.new + found.old.reads ≡ steps.old + found.new.reads }
-    ensures room { OnOk result (length found.new.hits.items ≤ length found.old.hits.items + 510) }
+    ensures grows { Grows found.old found.new 510 }
     ensures bound { found.new.reads ≤ found.old.reads + 766 }
 {
     let entry = entry_in(way.word);
-    meet_entry(words, entry, place, way.point, layers, found, steps)?;
-    Ok(())
+    meet_entry(words, entry, place, way.point, layers, found, steps);
 }
 
 /// Takes the references of the leaves that the ways of a group have reached.
@@ -60,27 +62,43 @@ fn meet_ways<W: Words, L: Ledger>(
     layers: &Layers,
     found: &mut Found,
     steps: &mut Steps<L>,
-) -> Result<(), NoMemory>
+)
     requires down { (root : ℕ) × (settings : Settings) × (state : State) × (s : Stands settings (W.image words.old) root state)
         × All (IsDown settings state s.layout) ways.now }
     requires places { first + length ways.now ≤ 8192 }
     requires room { length found.old.hits.items + 510 * length ways.now < 2 ^ 31 }
+    requires space { HasRoom found.old (510 * length ways.now) }
     requires few { found.old.reads + 766 * length ways.now < 2 ^ 59 }
     ensures same { words.new ≡ words.old }
-    ensures ok { OnOk result ((root : ℕ) (settings : Settings) (state : State) (s : Stands settings (W.image words.old) root state) (points : List Point)
+    ensures ok { (root : ℕ) (settings : Settings) (state : State) (s : Stands settings (W.image words.old) root state) (points : List Point)
         → All (IsDown settings state s.layout) ways.now → length points ≡ first
         → Gathers (W.image words.old) settings state layers.now points (sum_by (λ way. way.nodes) ways.now) found.old
-        → Gathers (W.image words.old) settings state layers.now (points ++ map (λ way. way.point) ways.now) 0 found.new) }
+        → Gathers (W.image words.old) settings state layers.now (points ++ map (λ way. way.point) ways.now) 0 found.new }
     ensures few { (root : ℕ) (settings : Settings) (state : State) (s : Stands settings (W.image words.old) root state)
         → All (IsDown settings state s.layout) ways.now
         → found.new.reads + sum_by (λ way. way.nodes) ways.now ≤ found.old.reads + sum_by (λ p. reads_of settings state p layers.now) (map (λ way. way.point) ways.now) }
     ensures ticks { steps.new + found.old.reads ≡ steps.old + found.new.reads }
-    ensures room { OnOk result (length found.new.hits.items ≤ length found.old.hits.items + 510 * length ways.now) }
+    ensures grows { Grows found.old found.new (510 * length ways.now) }
     ensures bound { found.new.reads ≤ found.old.reads + 766 * length ways.now }
 {
     for (i, way) in ways.iter().enumerate() {
-        meet_way(words, way, first + i as u32, layers, found, steps)?;
+        meet_way(words, way, first + i as u32, layers, found, steps);
     }
+}
+
+/// Makes room for all that so many points can add.
+fn reserve_for(found: &mut Found, count: usize) -> Result<(), NoMemory>
+    requires few { count ≤ 8192 }
+    ensures hits { found.new.hits.items ≡ found.old.hits.items }
+    ensures kept { found.new.kept.items ≡ found.old.kept.items }
+    ensures candidates { found.new.candidates.items ≡ found.old.candidates.items }
+    ensures reads { found.new.reads ≡ found.old.reads }
+    ensures space { OnOk result (HasRoom found.new (510 * count)) }
+{
+    let most = MOST_KEYS * count;
+    found.hits.reserve(most)?;
+    found.kept.reserve(most)?;
+    found.candidates.reserve(most)?;
     Ok(())
 }
 
@@ -108,6 +126,7 @@ fn meet_group<W: Words, L: Ledger>(
     ensures room { OnOk result (length buffers.new.found.hits.items ≤ length buffers.old.found.hits.items + 510 * length points.now) }
     ensures bound { buffers.new.found.reads ≤ buffers.old.found.reads + 780 * length points.now }
 {
+    reserve_for(&mut buffers.found, points.len())?;
     descend_all(
         words,
         root,
@@ -123,7 +142,7 @@ fn meet_group<W: Words, L: Ledger>(
         layers,
         &mut buffers.found,
         steps,
-    )?;
+    );
     Ok(())
 }
 

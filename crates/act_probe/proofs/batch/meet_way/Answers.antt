@@ -17,18 +17,12 @@ meet_entry-requires-clause-tells g c =
       told_here r.3 c.args.layers.now c.args.place c.args.way.now.point c.entry_in-entry.result c.args.way.now.nodes reached,
     )
 
-pub returns-in_err-meet_entry-clause-few : goal.returns-in_err-meet_entry-clause-few
-returns-in_err-meet_entry-clause-few g c = λ root settings state s down.
-    let reached = reached_at settings state s.layout c.args.way.now c.entry_in-entry.result c.entry_in-entry.ensures down in
-    few_here s c.args.layers.now c.args.place c.args.way.now.point c.entry_in-entry.result c.args.way.now.nodes reached c.args.found.now.reads c.meet_entry.new.found.reads
-    (c.meet_entry.ensures.few _ _ _ (told_here s c.args.layers.now c.args.place c.args.way.now.point c.entry_in-entry.result c.args.way.now.nodes reached))
-
 pub returns-clause-ok : goal.returns-clause-ok
 returns-clause-ok g c = λ root settings state s points ahead down long gathers.
     let reached = reached_at settings state s.layout c.args.way.now c.entry_in-entry.result c.entry_in-entry.ensures down in
     let told = told_here s c.args.layers.now c.args.place c.args.way.now.point c.entry_in-entry.result c.args.way.now.nodes reached in
     gathered s c.args.layers.now c.args.place c.args.way.now.point c.entry_in-entry.result c.args.way.now.nodes reached points ahead c.args.found.now c.meet_entry.new.found long gathers
-    (c.in_ok-meet_entry.ensures.ok _ _ _ gathers.mets told gathers.holds) (c.meet_entry.ensures.few _ _ _ told)
+    (c.meet_entry.ensures.ok _ _ _ gathers.mets told gathers.holds) (c.meet_entry.ensures.few _ _ _ told)
 
 pub returns-clause-few : goal.returns-clause-few
 returns-clause-few g c = λ root settings state s down.

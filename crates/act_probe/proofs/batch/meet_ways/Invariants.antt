@@ -6,7 +6,7 @@ use Rattle.act_super.specs.Stands.{Stands}
 use Rattle.act_probe.specs.declared.group.Way.{Way}
 use Rattle.act_probe.specs.Reads.{reads_of}
 use Rattle.act_probe.specs.Groups.{IsDown}
-use Rattle.act_probe.specs.Batches.{Gathers}
+use Rattle.act_probe.specs.Batches.{Gathers, Grows}
 use Rattle.act_probe.proofs.batch.meet_ways.Given as goal
 
 -- the points before the index were gathered
@@ -14,7 +14,7 @@ abbrev pub invariant-loop-i : goal.invariant-loop-i
 invariant-loop-i g l = record {
   same : l.words ≡ l.fn.words;
   ticks : l.steps + l.fn.found.reads ≡ l.fn.steps + l.found.reads;
-  room : length l.found.hits.items ≤ length l.fn.found.hits.items + 510 * l.i;
+  grows : Grows l.fn.found l.found (510 * l.i);
   bound : l.found.reads ≤ l.fn.found.reads + 766 * l.i;
   few : (root : ℕ) (settings : Settings) (state : State) (s : Stands settings (g.W.Words.image l.fn.words) root state)
       → All (IsDown settings state s.layout) l.ways

@@ -16,4 +16,4 @@ returns-clause-ok g c = λ zone mets chain holds.
     let key = c.chain_key.ensures ∙ first in
     let has : has_layer c.args.layers.now (layer_of c.chain_key.result) ≡ true = sym c.has.ensures ∙ grind arith in
     put_in _ c.args.layers.now c.args.place c.args.point c.args.r zone c.args.found.now c.put.new.found mets (rw key at has) holds chain
-    (rw first at c.in_ok-put.ensures.hits) c.in_ok-put.ensures.kept (rw c.word-head.ensures.word at c.in_ok-put.ensures.candidates)
+    (rw first at c.put.ensures.hits) c.put.ensures.kept (rw c.word-head.ensures.word at c.put.ensures.candidates)

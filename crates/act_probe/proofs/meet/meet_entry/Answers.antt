@@ -16,48 +16,32 @@ meet_pair-requires-in-Two-clause-refs g c =
     let r = c.requires.tells in
     (r.0, r.1, subst (RefsOf (g.W.Words.image c.args.words.now) r.0 r.1) (refs_two r.2 r.3.row r.3.place c.in-Two.a c.in-Two.b (sym c.in-Two.is ∙ r.3.is)) r.3.are)
 
-pub returns-in_err-meet_pair-in-One-clause-few : goal.returns-in_err-meet_pair-in-One-clause-few
-returns-in_err-meet_pair-in-One-clause-few g c = λ hit zones all tells.
-    omega (arith, c.meet_pair.ensures.few, ap (λ (rs : List Ref). length rs) (refs_one all tells.row tells.place c.in-One.a (sym c.in-One.is ∙ tells.is)))
-
-pub returns-in_err-meet_pair-in-Two-clause-few : goal.returns-in_err-meet_pair-in-Two-clause-few
-returns-in_err-meet_pair-in-Two-clause-few g c = λ hit zones all tells.
-    omega (arith, c.meet_pair-in-Two.ensures.few, ap (λ (rs : List Ref). length rs) (refs_two all tells.row tells.place c.in-Two.a c.in-Two.b (sym c.in-Two.is ∙ tells.is)))
-
-pub returns-in_err-meet_list-in-Table-clause-few : goal.returns-in_err-meet_list-in-Table-clause-few
-returns-in_err-meet_list-in-Table-clause-few g c = λ hit zones all tells.
-    omega (
-      arith,
-      table_long _ hit zones all c.args.entry c.in-Table.row c.in-Table.start tells c.in-Table.is,
-      c.meet_list.ensures.few hit zones all tells.are (list_there _ hit zones all c.args.entry c.in-Table.row c.in-Table.start tells c.in-Table.is),
-    )
-
-pub returns-in_ok-meet_pair-in-One-clause-ok : goal.returns-in_ok-meet_pair-in-One-clause-ok
-returns-in_ok-meet_pair-in-One-clause-ok g c = λ hit zones all mets tells holds.
+pub returns-in-One-clause-ok : goal.returns-in-One-clause-ok
+returns-in-One-clause-ok g c = λ hit zones all mets tells holds.
     let one = refs_one all tells.row tells.place c.in-One.a (sym c.in-One.is ∙ tells.is) in
     subst (λ (rs : List Ref). Holds (g.W.Words.image c.args.words.now) c.meet_pair.new.found (mets ++ mets_by c.args.layers.now c.args.place c.args.point zones rs)) (sym one)
-    (c.in_ok-meet_pair-in-One.ensures.ok hit zones mets (subst (RefsOf (g.W.Words.image c.args.words.now) hit zones) one tells.are) holds)
+    (c.meet_pair.ensures.ok hit zones mets (subst (RefsOf (g.W.Words.image c.args.words.now) hit zones) one tells.are) holds)
 
-pub returns-in_ok-meet_pair-in-One-clause-few : goal.returns-in_ok-meet_pair-in-One-clause-few
-returns-in_ok-meet_pair-in-One-clause-few g c = λ hit zones all tells.
+pub returns-in-One-clause-few : goal.returns-in-One-clause-few
+returns-in-One-clause-few g c = λ hit zones all tells.
     omega (arith, c.meet_pair.ensures.few, ap (λ (rs : List Ref). length rs) (refs_one all tells.row tells.place c.in-One.a (sym c.in-One.is ∙ tells.is)))
 
-pub returns-in_ok-meet_pair-in-Two-clause-ok : goal.returns-in_ok-meet_pair-in-Two-clause-ok
-returns-in_ok-meet_pair-in-Two-clause-ok g c = λ hit zones all mets tells holds.
+pub returns-in-Two-clause-ok : goal.returns-in-Two-clause-ok
+returns-in-Two-clause-ok g c = λ hit zones all mets tells holds.
     let two = refs_two all tells.row tells.place c.in-Two.a c.in-Two.b (sym c.in-Two.is ∙ tells.is) in
     subst (λ (rs : List Ref). Holds (g.W.Words.image c.args.words.now) c.meet_pair-in-Two.new.found (mets ++ mets_by c.args.layers.now c.args.place c.args.point zones rs)) (sym two)
-    (c.in_ok-meet_pair-in-Two.ensures.ok hit zones mets (subst (RefsOf (g.W.Words.image c.args.words.now) hit zones) two tells.are) holds)
+    (c.meet_pair-in-Two.ensures.ok hit zones mets (subst (RefsOf (g.W.Words.image c.args.words.now) hit zones) two tells.are) holds)
 
-pub returns-in_ok-meet_pair-in-Two-clause-few : goal.returns-in_ok-meet_pair-in-Two-clause-few
-returns-in_ok-meet_pair-in-Two-clause-few g c = λ hit zones all tells.
+pub returns-in-Two-clause-few : goal.returns-in-Two-clause-few
+returns-in-Two-clause-few g c = λ hit zones all tells.
     omega (arith, c.meet_pair-in-Two.ensures.few, ap (λ (rs : List Ref). length rs) (refs_two all tells.row tells.place c.in-Two.a c.in-Two.b (sym c.in-Two.is ∙ tells.is)))
 
-pub returns-in_ok-meet_list-in-Table-clause-ok : goal.returns-in_ok-meet_list-in-Table-clause-ok
-returns-in_ok-meet_list-in-Table-clause-ok g c = λ hit zones all mets tells holds.
-    c.in_ok-meet_list-in-Table.ensures.ok hit zones all mets tells.are (list_there _ hit zones all c.args.entry c.in-Table.row c.in-Table.start tells c.in-Table.is) holds
+pub returns-in-Table-clause-ok : goal.returns-in-Table-clause-ok
+returns-in-Table-clause-ok g c = λ hit zones all mets tells holds.
+    c.meet_list.ensures.ok hit zones all mets tells.are (list_there _ hit zones all c.args.entry c.in-Table.row c.in-Table.start tells c.in-Table.is) holds
 
-pub returns-in_ok-meet_list-in-Table-clause-few : goal.returns-in_ok-meet_list-in-Table-clause-few
-returns-in_ok-meet_list-in-Table-clause-few g c = λ hit zones all tells.
+pub returns-in-Table-clause-few : goal.returns-in-Table-clause-few
+returns-in-Table-clause-few g c = λ hit zones all tells.
     omega (
       arith,
       table_long _ hit zones all c.args.entry c.in-Table.row c.in-Table.start tells c.in-Table.is,

@@ -1,15 +1,15 @@
-use Rattle.std.proofs.Common.{◌≡◌, ◌∙◌, ◌+◌, ◌*◌, ◌++◌, List, sym, ap, arith, subst, drop, take, append-nil, append_assoc}
+use Rattle.std.proofs.Common.{◌≡◌, ◌∙◌, refl, ◌+◌, ◌*◌, ◌++◌, List, sym, ap, arith, subst, drop, take, append-nil, append_assoc}
 use Rattle.std.proofs.lemmas.List.{take_all}
 use Rattle.act_probe.specs.Batches.{Holds, Met, mets_by}
-use Rattle.act_probe.proofs.ListFacts.{next_of, count_is, pair_within, place_within, word_at, dropped, same_length, pairs_enough}
-use Rattle.act_probe.proofs.MetFacts.{mets_more, read_more}
+use Rattle.act_probe.proofs.ListFacts.{next_of, count_is, place_within, word_at, dropped, same_length, pairs_enough}
+use Rattle.act_probe.proofs.MetFacts.{grows_more, grows_none, mets_more, read_more, room_left}
 use Rattle.act_probe.proofs.meet.meet_list.Goals as goal
 
 pub loop-j-init : goal.loop-j-init
 loop-j-init g c = record {
   same = c.word-count.ensures.same;
   ticks = omega (arith, c.word-count.ensures.ticks);
-  room = omega arith;
+  grows = grows_none c.args.found.now _ refl refl refl;
   bound = omega arith;
   left = λ hit zones all h w. (h, omega arith);
   at = λ hit zones all mets h w holds. subst (Holds (g.W.Words.image c.args.words.now) _) (sym (append-nil mets)) (read_more _ c.args.found.now mets _ holds);
@@ -38,32 +38,18 @@ meet_word-requires-clause-refs g c =
 pub meet_word-requires-clause-room : goal.meet_word-requires-clause-room
 meet_word-requires-clause-room g c =
     let r = c.requires.list in
-    omega (arith, c.loop-j.invariant.room, count_is _ c.args.row c.args.start r.2 r.4 c.word-count.result c.word-count.ensures.word, c.loop-j-test.true, r.5)
+    omega (arith, c.loop-j.invariant.grows.hits, count_is _ c.args.row c.args.start r.2 r.4 c.word-count.result c.word-count.ensures.word, c.loop-j-test.true, r.5)
 
 pub meet_word-requires-clause-few : goal.meet_word-requires-clause-few
 meet_word-requires-clause-few g c =
     let r = c.requires.list in
     omega (arith, c.loop-j.invariant.bound, count_is _ c.args.row c.args.start r.2 r.4 c.word-count.result c.word-count.ensures.word, c.loop-j-test.true, r.5)
 
-pub returns-in_err-meet_word-clause-few : goal.returns-in_err-meet_word-clause-few
-returns-in_err-meet_word-clause-few g c = λ hit zones all h w.
-    let at = c.loop-j.invariant.left hit zones all h w in
-    let told = rw c.loop-j.invariant.same at c.word-word.ensures.word in
-    let pair = word_at _ c.args.row c.args.start all w c.word-count.result c.loop-j.j c.word-count.ensures.word c.loop-j-test.true c.word-word.result told in
-    let within = pair_within _ c.args.row c.args.start all w c.word-count.result c.loop-j.j c.word-count.ensures.word c.loop-j-test.true in
-    let few = (rw (c.word-word.ensures.same, c.loop-j.invariant.same) at c.meet_word.ensures.few) hit (drop (2 * c.loop-j.j) zones) (drop (2 * c.loop-j.j) all) at.0 pair in
-    omega (arith, within, few, at.1)
-
-pub returns-in_err-meet_word-clause-bound : goal.returns-in_err-meet_word-clause-bound
-returns-in_err-meet_word-clause-bound g c =
-    let r = c.requires.list in
-    omega (arith, c.meet_word.ensures.bound, c.loop-j.invariant.bound, count_is _ c.args.row c.args.start r.2 r.4 c.word-count.result c.word-count.ensures.word, c.loop-j-test.true, r.5)
-
 pub loop-j-preserved : goal.loop-j-preserved
 loop-j-preserved g c = record {
   same = c.meet_word.ensures.same ∙ c.word-word.ensures.same ∙ c.loop-j.invariant.same;
   ticks = omega (arith, c.meet_word.ensures.ticks, c.word-word.ensures.ticks, c.loop-j.invariant.ticks);
-  room = omega (arith, c.in_ok-meet_word.ensures.room, c.loop-j.invariant.room);
+  grows = grows_more c.args.found.now c.loop-j.found c.meet_word.new.found (2 * c.loop-j.j) 2 (2 * (c.loop-j.j + 1)) (omega arith) c.loop-j.invariant.grows (grows_more c.loop-j.found _ c.meet_word.new.found 0 2 2 (omega arith) (grows_none c.loop-j.found _ refl refl refl) c.meet_word.ensures.grows);
   bound = omega (arith, c.meet_word.ensures.bound, c.loop-j.invariant.bound);
   left = λ hit zones all h w.
       let at = c.loop-j.invariant.left hit zones all h w in
@@ -77,7 +63,7 @@ loop-j-preserved g c = record {
       let pair = word_at _ c.args.row c.args.start all w c.word-count.result c.loop-j.j c.word-count.ensures.word c.loop-j-test.true c.word-word.result told in
       let before : List Met = mets_by c.args.layers.now c.args.place c.args.point (take (2 * c.loop-j.j) zones) (take (2 * c.loop-j.j) all) in
       let held = read_more (g.W.Words.image c.args.words.now) c.loop-j.found (mets ++ before) _ (c.loop-j.invariant.at hit zones all mets h w holds) in
-      let ok = rw (c.word-word.ensures.same, c.loop-j.invariant.same) at c.in_ok-meet_word.ensures.ok in
+      let ok = rw (c.word-word.ensures.same, c.loop-j.invariant.same) at c.meet_word.ensures.ok in
       let two : 2 * (c.loop-j.j + 1) ≡ 2 * c.loop-j.j + 2 = omega arith in
       subst (Holds (g.W.Words.image c.args.words.now) c.meet_word.new.found) (
       append_assoc mets before _
@@ -98,10 +84,18 @@ returns-clause-few g c = λ hit zones all h w.
     let at = c.loop-j.invariant.left hit zones all h w in
     omega (arith, at.1, count_is _ c.args.row c.args.start all w c.word-count.result c.word-count.ensures.word, pairs_enough all, c.loop-j.auto.j-end)
 
-pub returns-clause-room : goal.returns-clause-room
-returns-clause-room g c =
+pub returns-clause-grows : goal.returns-clause-grows
+returns-clause-grows g c =
     let r = c.requires.list in
-    omega (arith, c.loop-j.invariant.room, count_is _ c.args.row c.args.start r.2 r.4 c.word-count.result c.word-count.ensures.word, r.5, c.loop-j.auto.j-end)
+    let few = count_is _ c.args.row c.args.start r.2 r.4 c.word-count.result c.word-count.ensures.word in
+    grows_more c.args.found.now c.loop-j.found c.loop-j.found (2 * c.loop-j.j) 0 510 (omega (arith, few, r.5, c.loop-j.auto.j-end)) c.loop-j.invariant.grows (grows_none c.loop-j.found _ refl refl refl)
+
+pub meet_word-requires-clause-space : goal.meet_word-requires-clause-space
+meet_word-requires-clause-space g c =
+    let r = c.requires.list in
+    let few = count_is _ c.args.row c.args.start r.2 r.4 c.word-count.result c.word-count.ensures.word in
+    room_left c.args.found.now _ (2 * c.loop-j.j) 2 510 (omega (arith, few, c.loop-j-test.true, r.5)) c.requires.space
+    (grows_more c.args.found.now c.loop-j.found _ (2 * c.loop-j.j) 0 (2 * c.loop-j.j) (omega arith) c.loop-j.invariant.grows (grows_none c.loop-j.found _ refl refl refl))
 
 pub returns-clause-bound : goal.returns-clause-bound
 returns-clause-bound g c =

@@ -14,12 +14,12 @@ meet-requires-in-Some-clause-chain g c =
     let both = two_of _ c.requires.refs.0 c.requires.refs.1 c.args.a c.in-Some.b refs in
     rw c.meet.ensures.same (both.second, both.next)
 
-pub returns-in_ok-meet-in-Some-clause-ok : goal.returns-in_ok-meet-in-Some-clause-ok
-returns-in_ok-meet-in-Some-clause-ok g c = λ hit zones mets h holds.
+pub returns-in-Some-clause-ok : goal.returns-in-Some-clause-ok
+returns-in-Some-clause-ok g c = λ hit zones mets h holds.
     rw c.in-Some.is (two_met (g.W.Words.image c.args.words.now) c.args.layers.now c.args.place c.args.point hit zones c.args.a c.in-Some.b c.args.found.now c.meet.new.found c.meet-in-Some.new.found mets
-    (rw c.in-Some.is at h) holds c.in_ok-meet.ensures.ok (rw c.meet.ensures.same at c.in_ok-meet-in-Some.ensures.ok))
+    (rw c.in-Some.is at h) holds c.meet.ensures.ok (rw c.meet.ensures.same at c.meet-in-Some.ensures.ok))
 
 pub returns-in-None-clause-ok : goal.returns-in-None-clause-ok
 returns-in-None-clause-ok g c = λ hit zones mets h holds.
     rw c.in-None.is (one_met (g.W.Words.image c.args.words.now) c.args.layers.now c.args.place c.args.point hit zones c.args.a c.args.a c.args.found.now c.args.found.now c.meet.new.found mets
-    (rw c.in-None.is at h) holds c.in_ok-meet.ensures.ok)
+    (rw c.in-None.is at h) holds c.meet.ensures.ok)
