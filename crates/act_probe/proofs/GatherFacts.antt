@@ -1,7 +1,6 @@
 -- What is gathered for one point more.
 use Rattle.std.proofs.Common.{◌≡◌, ℕ, zero, suc, ◌+◌, ◌/◌, ◌==◌, ◌≤◌, ◌++◌, Bool, true, false, ◌&&◌, ◌||◌, cond, refl, sym, ap, ◌∙◌, arith, List, [], ◌∷◌, append_assoc, append-nil, length, map, filter, take, get_or, ◌<◌}
 use Rattle.std.specs.Prelude.{sum_by}
-use Rattle.std.specs.List.{All}
 use Rattle.std.proofs.lemmas.List.{length-append, length-map, length-take, map-append, map_push, take_more}
 use Rattle.std.proofs.lemmas.Simd.{map-map}
 use Rattle.std.proofs.lemmas.List.Elements.{filter-append}
@@ -25,11 +24,10 @@ use Rattle.act_probe.specs.declared.group.Way.{Way}
 use Rattle.act_probe.specs.Chains.{RefsOf, Tells, found_keys, found_reads}
 use Rattle.act_probe.specs.Reads.{list_reads, reads_of}
 use Rattle.act_probe.specs.Ways.{IsReached, leaf_of}
-use Rattle.act_probe.specs.Groups.{IsDown}
 use Rattle.act_probe.specs.Batches.{Gathers, Holds, Met, hit_of, is_held, met_by, mets_by, pair_of, test_reads}
 use Rattle.act_probe.proofs.FoundFacts.{found_is, reads_are}
 use Rattle.act_probe.proofs.GroupFacts.{no_way}
-use Rattle.act_probe.proofs.SumFacts.{stopped, sum_by-map, went_on}
+use Rattle.act_probe.proofs.SumFacts.{sum_by-map, went_on}
 use Rattle.act_probe.proofs.MetFacts.{words_are}
 use Rattle.act_probe.proofs.StandFacts.{hit_on, zones_on}
 use Rattle.act_probe.proofs.TellFacts.{tells}
@@ -136,11 +134,7 @@ each_read settings state layers (p ∷ points) =
     omega (arith, some_read settings state layers p, each_read settings state layers points, sum_by-cons (λ q. reads_of settings state q layers) p points)
 
 -- ---- the ways of a group
-module _ {settings : Settings} {x : Sight} {root : ℕ} {state : State} (s : Stands settings x root state) (layers : Layers) (ways : List Way)
-    (all : All (IsDown settings state s.layout) ways) where
-  pub nodes_few : All (λ (way : Way). way.nodes ≤ reads_of settings state way.point layers) ways
-  nodes_few k d within = omega (arith, reads_here s layers 0 (get_or ways k d).point (all k d within).entry (get_or ways k d).nodes (all k d within).reached)
-
+module _ (settings : Settings) (state : State) (layers : Layers) (ways : List Way) where
   abbrev nodes_in : List Way → ℕ
   nodes_in ws = sum_by (λ (way : Way). way.nodes) ws
 
@@ -157,11 +151,6 @@ module _ {settings : Settings} {x : Sight} {root : ℕ} {state : State} (s : Sta
         rw (sum_by-map (λ p. reads_of settings state p layers) (λ (way : Way). way.point) (take (i + 1) ways))
         (went_on (λ (way : Way). way.nodes) (λ (way : Way). reads_of settings state way.point layers) ways i old before new no_way within spelled one)
 
-    pub few_stopped : new + nodes_in ways ≤ old + reads_in ways
-    few_stopped =
-        rw (sum_by-map (λ p. reads_of settings state p layers) (λ (way : Way). way.point) ways)
-        (stopped (λ (way : Way). way.nodes) (λ (way : Way). reads_of settings state way.point layers) ways i old before new no_way within spelled one nodes_few)
-
 -- one way more
 pub points_more : (points : List Point) (ways : List Way) (i : ℕ) → i < length ways
     → (points ++ map (λ (way : Way). way.point) (take i ways)) ++ (get_or ways i no_way).point ∷ [] ≡ points ++ map (λ (way : Way). way.point) (take (i + 1) ways)
@@ -173,16 +162,17 @@ pub places_more : (points : List Point) (ways : List Way) (i first : ℕ) → i 
 places_more points ways i first within long =
     length-append points (map (λ (way : Way). way.point) (take i ways)) ∙ omega (arith, long, within, length-map (take i ways) (λ (way : Way). way.point), length-take i ways)
 
--- words were read for points to come
-pub gathered_still : (x : Sight) (settings : Settings) (state : State) (layers : Layers) (points : List Point) (ahead : ℕ) (old new : Found) → Gathers x settings state layers points ahead old
+-- the buffers were given more room
+pub regathered : (x : Sight) (settings : Settings) (state : State) (layers : Layers) (points : List Point) (ahead : ℕ) (old new : Found) → Gathers x settings state layers points ahead old
     → new.hits.items ≡ old.hits.items → new.kept.items ≡ old.kept.items → new.candidates.items ≡ old.candidates.items → new.reads ≡ old.reads → Gathers x settings state layers points ahead new
-gathered_still x settings state layers points ahead old new g hits kept candidates reads = record {
+regathered x settings state layers points ahead old new g hits kept candidates reads = record {
   mets = g.mets;
   holds = record { hits = hits ∙ g.holds.hits; kept = kept ∙ g.holds.kept; candidates = candidates ∙ g.holds.candidates; chains = g.holds.chains };
   are = g.are;
   few = omega (arith, reads, g.few);
 }
 
+-- words were read for points to come
 pub read_ahead : (x : Sight) (settings : Settings) (state : State) (layers : Layers) (points : List Point) (ahead : ℕ) (old : Found) (reads : ℕ) → Gathers x settings state layers points 0 old
     → reads ≤ old.reads + ahead → Gathers x settings state layers points ahead (record old { reads = reads })
 read_ahead x settings state layers points ahead old reads g more = record {

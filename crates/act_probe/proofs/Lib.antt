@@ -11,6 +11,7 @@ pub mod TellFacts
 pub mod SweepFacts
 pub mod GroupFacts
 pub mod HalfFacts
+pub mod RoomFacts
 pub mod MetFacts
 pub mod SumFacts
 pub mod GatherFacts

@@ -141,7 +141,7 @@ module _ (x : Sight) (row place : ℕ) (refs : List Ref) (w : HasWords x row pla
 
   -- the j-th word of two references
   module _ (count j : ℕ) (is : count ≡ x.word row place) (left : j < (count + 1) / 2) where
-    pub pair_within : j < length (pairs_of refs)
+    pair_within : j < length (pairs_of refs)
     pair_within = omega (arith, left, count_is count is, pairs_enough refs)
 
     pub place_within : place + 1 + j < 256

@@ -1,5 +1,5 @@
 -- The zones that meet the leaf of a point.
-use Rattle.std.proofs.Common.{◌≡◌, ℕ, zero, suc, ◌+◌, ◌≤◌, ◌++◌, Bool, true, false, not, ◌&&◌, cond, refl, sym, ap, ◌∙◌, subst, arith, List, [], ◌∷◌, append_assoc, append-nil, drop, length, take}
+use Rattle.std.proofs.Common.{◌≡◌, ℕ, zero, suc, ◌+◌, ◌++◌, Bool, true, false, not, ◌&&◌, cond, refl, sym, ap, ◌∙◌, subst, arith, List, [], ◌∷◌, append_assoc, append-nil, drop, length, take}
 use Rattle.std.specs.Prelude.{sum_by}
 use Rattle.std.proofs.lemmas.List.{map-append, length-map}
 use Rattle.std.proofs.lemmas.List.Elements.{All-append, All-cons, All-nil}
@@ -13,7 +13,7 @@ use Rattle.act_super.specs.declared.entry.Zone.{Zone}
 use Rattle.act_probe.specs.declared.buffers.Found.{Found}
 use Rattle.act_probe.specs.Chains.{ChainAt, RefsOf, found_reads}
 use Rattle.act_probe.specs.Reads.{body_reads}
-use Rattle.act_probe.specs.Batches.{Grows, HasRoom, Holds, Met, candidate_of, candidates_from, met_by, mets_by, pair_of, test_reads}
+use Rattle.act_probe.specs.Batches.{Holds, Met, candidate_of, candidates_from, met_by, mets_by, pair_of, test_reads}
 use Rattle.act_probe.proofs.RefFacts.{one_of, two_of}
 
 -- the candidates of two lists
@@ -84,29 +84,6 @@ nothing_met x layers place p hit (z ∷ zones) (r ∷ refs) found mets h none ho
 -- the words that are read are of no account
 pub read_more : (x : Sight) (found : Found) (mets : List Met) (reads : ℕ) → Holds x found mets → Holds x (record found { reads = reads }) mets
 read_more x found mets reads holds = record { hits = holds.hits; kept = holds.kept; candidates = holds.candidates; chains = holds.chains }
-
--- what was found is as much as before
-pub grows_none : (a b : Found) → b.hits ≡ a.hits → b.kept ≡ a.kept → b.candidates ≡ a.candidates → Grows a b 0
-grows_none a b h k cs = rw (h, k, cs) (record { hits = omega arith; kept = omega arith; candidates = omega arith; hits_room = refl; kept_room = refl; candidates_room = refl })
-
--- what was found twice over
-pub grows_more : (a b c : Found) (m n k : ℕ) → m + n ≤ k → Grows a b m → Grows b c n → Grows a c k
-grows_more a b c m n k within one two = record {
-  hits = omega (arith, within, one.hits, two.hits);
-  kept = omega (arith, within, one.kept, two.kept);
-  candidates = omega (arith, within, one.candidates, two.candidates);
-  hits_room = two.hits_room ∙ one.hits_room;
-  kept_room = two.kept_room ∙ one.kept_room;
-  candidates_room = two.candidates_room ∙ one.candidates_room;
-}
-
--- the room that is left
-pub room_left : (a b : Found) (m n k : ℕ) → m + n ≤ k → HasRoom a k → Grows a b m → HasRoom b n
-room_left a b m n k within room grows = record {
-  hits = omega (arith, within, room.hits, grows.hits, grows.hits_room);
-  kept = omega (arith, within, room.kept, grows.kept, grows.kept_room);
-  candidates = omega (arith, within, room.candidates, grows.candidates, grows.candidates_room);
-}
 
 -- the references before a place, and some after it
 module _ (x : Sight) (layers : Layers) (place : ℕ) (p : Point) (hit : Zone → Bool) where

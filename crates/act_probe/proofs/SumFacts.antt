@@ -1,21 +1,15 @@
 -- Sums over a list that is gone through.
-use Rattle.std.proofs.Common.{◌≡◌, ℕ, zero, suc, ◌+◌, ◌-◌, ◌*◌, ◌≤◌, ◌<◌, ◌++◌, min, refl, sym, ap, ◌∙◌, arith, List, [], ◌∷◌, length, map, take, drop, get_or}
+use Rattle.std.proofs.Common.{◌≡◌, ℕ, ◌+◌, ◌-◌, ◌*◌, ◌≤◌, ◌<◌, ◌++◌, min, refl, sym, ap, ◌∙◌, arith, List, [], ◌∷◌, length, map, take, drop, get_or}
 use Rattle.std.specs.Prelude.{sum_by}
 use Rattle.std.specs.List.{All, AllByRecursion as Each}
 use Rattle.std.proofs.Math.Seq.{take-add}
 use Rattle.std.proofs.lemmas.List.{length-append, take_min}
 use Rattle.std.proofs.lemmas.List.Elements.{recursion_from_All}
-use Rattle.std.proofs.lemmas.List.Sums.{sum_by-cons, sum_by_more, sum_by-drop_more, sum_by-take-drop}
+use Rattle.std.proofs.lemmas.List.Sums.{sum_by-cons, sum_by_more}
 
 pub sum_by-map : {X Y : Type 0} (f : Y → ℕ) (g : X → Y) (xs : List X) → sum_by f (map g xs) ≡ sum_by (λ x. f (g x)) xs
 sum_by-map f g [] = refl
 sum_by-map f g (x ∷ xs) = sum_by-cons f (g x) (map g xs) ∙ ap (λ n. f (g x) + n) (sum_by-map f g xs) ∙ sym (sum_by-cons (λ y. f (g y)) x xs)
-
-each_drop : {X : Type 0} (P : X → Type 0) (n : ℕ) (xs : List X) → Each P xs → Each P (drop n xs)
-each_drop P zero [] each = tt
-each_drop P zero (x ∷ xs) each = each
-each_drop P (suc n) [] each = tt
-each_drop P (suc n) (x ∷ xs) each = each_drop P n xs each.1
 
 sums_few : {X : Type 0} (f g : X → ℕ) (xs : List X) → Each (λ x. f x ≤ g x) xs → sum_by f xs ≤ sum_by g xs
 sums_few f g [] each = omega arith
@@ -28,12 +22,6 @@ module _ {X : Type 0} (f g : X → ℕ) (xs : List X) where
   module _ (i old before new : ℕ) (d : X) (within : i < length xs) (few : before + sum_by f (take i xs) ≤ old + sum_by g (take i xs)) (one : new + f (get_or xs i d) ≤ before + g (get_or xs i d)) where
     pub went_on : new + sum_by f (take (i + 1) xs) ≤ old + sum_by g (take (i + 1) xs)
     went_on = omega (arith, few, one, sum_by_more f xs i d within, sum_by_more g xs i d within)
-
-    -- the rest was left out
-    pub stopped : All (λ x. f x ≤ g x) xs → new + sum_by f xs ≤ old + sum_by g xs
-    stopped all =
-        let rest = sums_few f g (drop (i + 1) xs) (each_drop (λ x. f x ≤ g x) (i + 1) xs (recursion_from_All (λ x. f x ≤ g x) xs all)) in
-        omega (arith, few, one, rest, sum_by-take-drop f xs i, sum_by-take-drop g xs i, sum_by-drop_more f xs i d within, sum_by-drop_more g xs i d within)
 
 -- the next group of a list that is cut into groups of sixteen
 module _ {X : Type 0} (xs : List X) (k e : ℕ) (more : k * 16 < length xs) (end : e ≡ min (k * 16 + 16) (length xs)) where

@@ -1,15 +1,16 @@
-use Rattle.std.proofs.Common.{◌≡◌, ◌∙◌, refl, ◌+◌, ◌*◌, ◌++◌, List, sym, ap, arith, subst, drop, take, append-nil, append_assoc}
+use Rattle.std.proofs.Common.{◌≡◌, ◌∙◌, ◌+◌, ◌*◌, ◌≤◌, ◌++◌, List, sym, ap, arith, subst, drop, take, append-nil, append_assoc}
 use Rattle.std.proofs.lemmas.List.{take_all}
 use Rattle.act_probe.specs.Batches.{Holds, Met, mets_by}
 use Rattle.act_probe.proofs.ListFacts.{next_of, count_is, place_within, word_at, dropped, same_length, pairs_enough}
-use Rattle.act_probe.proofs.MetFacts.{grows_more, grows_none, mets_more, read_more, room_left}
+use Rattle.act_probe.proofs.RoomFacts.{grows_more, grows_most, grows_none, still_room}
+use Rattle.act_probe.proofs.MetFacts.{mets_more, read_more}
 use Rattle.act_probe.proofs.meet.meet_list.Goals as goal
 
 pub loop-j-init : goal.loop-j-init
 loop-j-init g c = record {
   same = c.word-count.ensures.same;
   ticks = omega (arith, c.word-count.ensures.ticks);
-  grows = grows_none c.args.found.now _ refl refl refl;
+  grows = grows_none c.args.found.now _ _;
   bound = omega arith;
   left = λ hit zones all h w. (h, omega arith);
   at = λ hit zones all mets h w holds. subst (Holds (g.W.Words.image c.args.words.now) _) (sym (append-nil mets)) (read_more _ c.args.found.now mets _ holds);
@@ -40,6 +41,12 @@ meet_word-requires-clause-room g c =
     let r = c.requires.list in
     omega (arith, c.loop-j.invariant.grows.hits, count_is _ c.args.row c.args.start r.2 r.4 c.word-count.result c.word-count.ensures.word, c.loop-j-test.true, r.5)
 
+pub meet_word-requires-clause-space : goal.meet_word-requires-clause-space
+meet_word-requires-clause-space g c =
+    let r = c.requires.list in
+    let few : 2 * c.loop-j.j + 2 ≤ 510 = omega (arith, count_is _ c.args.row c.args.start r.2 r.4 c.word-count.result c.word-count.ensures.word, c.loop-j-test.true, r.5) in
+    still_room c.args.found.now c.loop-j.found _ (2 * c.loop-j.j) 2 510 c.loop-j.invariant.grows c.requires.space few
+
 pub meet_word-requires-clause-few : goal.meet_word-requires-clause-few
 meet_word-requires-clause-few g c =
     let r = c.requires.list in
@@ -49,7 +56,7 @@ pub loop-j-preserved : goal.loop-j-preserved
 loop-j-preserved g c = record {
   same = c.meet_word.ensures.same ∙ c.word-word.ensures.same ∙ c.loop-j.invariant.same;
   ticks = omega (arith, c.meet_word.ensures.ticks, c.word-word.ensures.ticks, c.loop-j.invariant.ticks);
-  grows = grows_more c.args.found.now c.loop-j.found c.meet_word.new.found (2 * c.loop-j.j) 2 (2 * (c.loop-j.j + 1)) (omega arith) c.loop-j.invariant.grows (grows_more c.loop-j.found _ c.meet_word.new.found 0 2 2 (omega arith) (grows_none c.loop-j.found _ refl refl refl) c.meet_word.ensures.grows);
+  grows = grows_more c.args.found.now c.loop-j.found c.meet_word.new.found _ (2 * c.loop-j.j) 2 (2 * (c.loop-j.j + 1)) c.loop-j.invariant.grows c.meet_word.ensures.grows (omega arith);
   bound = omega (arith, c.meet_word.ensures.bound, c.loop-j.invariant.bound);
   left = λ hit zones all h w.
       let at = c.loop-j.invariant.left hit zones all h w in
@@ -87,15 +94,8 @@ returns-clause-few g c = λ hit zones all h w.
 pub returns-clause-grows : goal.returns-clause-grows
 returns-clause-grows g c =
     let r = c.requires.list in
-    let few = count_is _ c.args.row c.args.start r.2 r.4 c.word-count.result c.word-count.ensures.word in
-    grows_more c.args.found.now c.loop-j.found c.loop-j.found (2 * c.loop-j.j) 0 510 (omega (arith, few, r.5, c.loop-j.auto.j-end)) c.loop-j.invariant.grows (grows_none c.loop-j.found _ refl refl refl)
-
-pub meet_word-requires-clause-space : goal.meet_word-requires-clause-space
-meet_word-requires-clause-space g c =
-    let r = c.requires.list in
-    let few = count_is _ c.args.row c.args.start r.2 r.4 c.word-count.result c.word-count.ensures.word in
-    room_left c.args.found.now _ (2 * c.loop-j.j) 2 510 (omega (arith, few, c.loop-j-test.true, r.5)) c.requires.space
-    (grows_more c.args.found.now c.loop-j.found _ (2 * c.loop-j.j) 0 (2 * c.loop-j.j) (omega arith) c.loop-j.invariant.grows (grows_none c.loop-j.found _ refl refl refl))
+    let few : 2 * c.loop-j.j ≤ 510 = omega (arith, count_is _ c.args.row c.args.start r.2 r.4 c.word-count.result c.word-count.ensures.word, r.5, c.loop-j.auto.j-end) in
+    grows_most c.args.found.now c.loop-j.found (2 * c.loop-j.j) 510 c.loop-j.invariant.grows few
 
 pub returns-clause-bound : goal.returns-clause-bound
 returns-clause-bound g c =
