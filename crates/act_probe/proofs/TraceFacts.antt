@@ -18,7 +18,7 @@ use Rattle.act_probe.specs.declared.trace.Trace.{Trace}
 use Rattle.act_probe.specs.Batches.{answered}
 use Rattle.act_probe.specs.Sweeps.{Ends, at_rest, crossed, phase_of, walk_of}
 
-differ_is : (b c : Bool) → differ b c ≡ not (beq b c)
+pub differ_is : (b c : Bool) → differ b c ≡ not (beq b c)
 differ_is true true = refl
 differ_is true false = refl
 differ_is false true = refl

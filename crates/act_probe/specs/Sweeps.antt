@@ -1,5 +1,5 @@
 -- The candidates of one zone, tested by one way over its words.
-use Rattle.std.specs.Prelude.{◌≡◌, ◌≢◌, ℕ, ℤ, ◌+◌, ◌<◌, ◌≤◌, ◌<ℤ◌, ◌≤ℤ◌, Bool, true, false, List, [], ◌∷◌, drop, length, slice_index, slice_index_or}
+use Rattle.std.specs.Prelude.{◌≡◌, ◌≢◌, ℕ, ℤ, zero, suc, pos, ◌+◌, ◌-◌, ◌-ℤ◌, ◌/◌, ◌%◌, ◌^◌, ◌<◌, ◌≤◌, ◌<ℤ◌, ◌≤ℤ◌, Bool, true, false, List, [], ◌∷◌, drop, length, slice_index, slice_index_or}
 use Rattle.act_grid.specs.declared.Point.{Point}
 use Rattle.act_geom.specs.Inside.{counts, differ}
 use Rattle.act_geom.specs.Walk.{Expects}
@@ -58,6 +58,24 @@ walk_of t c = record {
   first = t.first;
   last = t.last;
 }
+
+-- the vertex of a word
+abbrev pub vertex_at : ℕ → Point
+vertex_at word = record { x = pos (word / 2 ^ 32) -ℤ pos (2 ^ 31); y = pos (word % 2 ^ 32) -ℤ pos (2 ^ 31) }
+
+-- the last of the first k of these vertices, which come after one
+abbrev pub last_at : Point → List ℕ → ℕ → Point
+last_at before words zero = before
+last_at before words (suc k) = vertex_at (slice_index words k)
+
+-- an odd number of the edges to them counts for the point
+abbrev pub odd_by : Point → Point → List ℕ → ℕ → Bool
+odd_by p before words zero = false
+odd_by p before words (suc k) = differ (odd_by p before words k) (counts p (record { a = last_at before words k; b = vertex_at (slice_index words k) }))
+
+-- the trace behind them
+abbrev pub traced : Trace → List ℕ → ℕ → Trace
+traced t words k = record t { vertices = t.vertices - k; last = last_at t.last words k }
 
 -- the words have come to their end, or go on
 abbrev pub Ends : Bool → Walk → List ℕ → Bool → Type 0

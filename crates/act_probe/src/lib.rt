@@ -8,7 +8,7 @@
 //! ascending keys of the zones of the layers that the point is inside, within `reads_of` words.
 //!
 //! `probe_batch` answers many points together, with the pairs of the join: they go down in groups, and
-//! the polygon of a zone with more than a few candidates is read once for all of them.
+//! the polygon of a zone is read once for all its candidates.
 //!
 //! ```text
 //! let reads = probe(&mut words, root, p, Layers::all(), &mut keys, &mut steps);

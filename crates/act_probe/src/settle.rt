@@ -19,11 +19,7 @@ use act_base::Steps;
 use act_grid::NoMemory;
 use std::sync::ledger::Ledger;
 
-/// So few candidates of a zone are sooner tested one by one: which of an edge's ends lies higher, as a way over the words
-/// for all of them asks, is guessed wrong more often than on which side of one row they lie.
-const FEW: usize = 2;
-
-/// Where the candidates end that are tested together from a place on: all of a zone, or one where they are few.
+/// Where the candidates of a zone end that begin at a place.
 fn run_end(candidates: &[Candidate], start: usize) -> usize
     requires { start < length candidates.now }
     ensures more { start < result }
@@ -34,9 +30,6 @@ fn run_end(candidates: &[Candidate], start: usize) -> usize
     let mut end = start + 1;
     while end < candidates.len() && candidates[end].row == row {
         end += 1;
-    }
-    if end - start <= FEW {
-        return start + 1;
     }
     end
 }
@@ -65,7 +58,7 @@ fn resolve_zone<W: Words, L: Ledger>(
     sweep(words, first.row, first.head, buffer, run, reads, steps);
 }
 
-/// Tests the candidates, zone by zone. The words of a zone with more than a few are read once.
+/// Tests the candidates, zone by zone. The words of a zone are read once.
 fn resolve<W: Words, L: Ledger>(
     words: &mut W,
     candidates: &mut [Candidate],

@@ -6,7 +6,6 @@ ghost use Rattle.act_probe.specs.declared.buffers.Candidate.{Candidate};
 ghost use Rattle.act_probe.specs.Sweeps.{Ascends, IsAboveFrom, IsPlacedAt, at_rest, crossed};
 
 use crate::buffers::Candidate;
-use act_geom::edge_counts;
 use act_grid::Point;
 
 /// How far one number is above another one.
@@ -169,14 +168,6 @@ pub(crate) fn cross(run: &mut [Candidate], at: usize, a: Point, b: Point) -> usi
         return fall(run, at, a, b);
     }
     at
-}
-
-/// Counts an edge from `a` to `b` for a lone candidate.
-#[inline]
-pub(crate) fn cross_lone(candidate: &mut Candidate, a: Point, b: Point)
-    ensures { candidate.new ≡ crossed a b candidate.old }
-{
-    candidate.odd ^= edge_counts(a, b, candidate.point);
 }
 
 /// A place from which on no point lies below the row of a vertex.

@@ -21,6 +21,10 @@ use std::sync::ledger::Ledger;
 /// How many words of a body a row has at most.
 pub(crate) const ROOM: usize = 255;
 
+/// So few candidates of a zone are sooner tested one by one: a way over the words for all of them asks more of each edge than
+/// on which side of one row its ends lie.
+const FEW: usize = 2;
+
 /// Reads the words of a row behind a place, one right after the other: none waits for what another one decides.
 fn read_row<W: Words, L: Ledger>(
     words: &mut W,
@@ -60,22 +64,23 @@ fn pass_all(body: &[u64], trace: &mut Trace, run: &mut [Candidate])
     *trace = now;
 }
 
-/// The same for a lone candidate. The place of the last vertex's row among the candidates is left as it was.
-fn pass_lone(body: &[u64], trace: &mut Trace, candidate: &mut Candidate)
+/// The same for a few candidates, one by one.
+fn pass_each(body: &[u64], trace: &mut Trace, run: &mut [Candidate])
     requires stage { trace.old.stage ≡ Next }
     requires more { length body.now < trace.old.vertices }
-    ensures passes { Passes body.now (length body.now) trace.old candidate.old trace.new candidate.new }
-    ensures rest { at_rest candidate.new ≡ at_rest candidate.old }
-    ensures at { trace.new.at ≡ trace.old.at }
+    requires ascends { Ascends run.old }
+    requires within { trace.old.at ≤ length run.old }
+    ensures passes { (j : ℕ) (d : Candidate) → j < length run.old → Passes body.now (length body.now) trace.old (slice_index_or run.old j d) trace.new (slice_index_or run.new j d) }
+    ensures rest { map at_rest run.new ≡ map at_rest run.old }
+    ensures ascends { Ascends run.new }
+    ensures set { IsSet trace.new run.new }
     ensures stage { trace.new.stage ≡ Next }
 {
-    let mut now = *trace;
-    let mut lone = *candidate;
-    for word in body {
-        now.feed_lone(*word, &mut lone);
+    for candidate in run.iter_mut() {
+        candidate.odd ^= trace.is_odd_past(body, candidate.point);
     }
-    *trace = now;
-    *candidate = lone;
+    trace.skip(body);
+    trace.set(run);
 }
 
 /// Takes words of a body.
@@ -90,9 +95,8 @@ fn pass_words(body: &[u64], trace: &mut Trace, run: &mut [Candidate])
     ensures set { IsSet trace.new run.new }
     ensures stage { trace.new.stage ≡ Next }
 {
-    if run.len() == 1 {
-        pass_lone(body, trace, &mut run[0]);
-        trace.set(run);
+    if run.len() <= FEW {
+        pass_each(body, trace, run);
         return;
     }
     pass_all(body, trace, run);
