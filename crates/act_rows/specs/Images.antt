@@ -1,5 +1,5 @@
 -- Images of versions, and where the words of their rows lie.
-use Rattle.std.specs.Prelude.{◌≡◌, ℕ, ◌+◌, ◌-◌, ◌*◌, ◌<◌, ◌≤◌, List, slice_index, Contains}
+use Rattle.std.specs.Prelude.{◌≡◌, ℕ, ◌+◌, ◌-◌, ◌*◌, ◌%◌, ◌<◌, ◌≤◌, List, slice_index, Contains}
 use Rattle.act_base.specs.Sight.{Sight}
 use Rattle.act_rows.specs.declared.views.Snapshot.{Snapshot}
 
@@ -8,9 +8,10 @@ pub record InRange (rows row : ℕ) : Type 0 where
   pub above : 0 < row
   pub below : row ≤ 2 * rows
 
--- where the word of a row at a place stands among the words of rows
+-- where the word of a row at a place stands among the words of rows: each row's words are turned by eight more than those of the
+-- row before
 abbrev pub place_in : ℕ → ℕ → ℕ
-place_in row place = (row - 1) * 256 + place
+place_in row place = (row - 1) * 256 + (place + 8 * row) % 256
 
 -- the image's word of a row at a place
 abbrev pub word_of : Snapshot → ℕ → ℕ → ℕ
