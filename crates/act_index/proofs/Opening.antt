@@ -16,7 +16,7 @@ use Rattle.act_super.proofs.LinkFacts.{rows_of_none}
 use Rattle.act_rows.specs.declared.views.Version.{Version}
 use Rattle.act_rows.specs.declared.views.Desk.{Desk}
 use Rattle.act_rows.specs.First.{first_image, first_version, first_desk}
-use Rattle.act_rows.specs.Images.{sight_of}
+use Rattle.act_rows.specs.Images.{place_in, sight_of}
 use Rattle.act_rows.specs.Tokens.{Mastered}
 use Rattle.act_pool.specs.Pooled.{Pooled, first_free}
 use Rattle.act_image.specs.Pics.{Pic, rows_in, Shows, Opens}
@@ -25,7 +25,7 @@ use Rattle.act_index.specs.Whole.{IsWhole, parts}
 use Rattle.act_index.proofs.Carrying.{stands_from}
 
 blank : (rows : ℕ) → IsBlank (sight_of (first_image rows))
-blank rows = record { rows = refl; firsts = refl; word = λ place small. zeros (512 * rows) ((1 - 1) * 256 + place) }
+blank rows = record { rows = refl; firsts = refl; word = λ place small. zeros (512 * rows) (place_in 1 place) }
   where
     zeros : (n i : ℕ) → let z : ℕ = 0 in get_or (replicate n z) i 0 ≡ z
     zeros zero i = refl
