@@ -19,7 +19,7 @@ use Rattle.act_probe.specs.declared.buffers.Candidate.{Candidate}
 use Rattle.act_probe.specs.declared.chain.Chain.{Chain}
 use Rattle.act_probe.specs.declared.trace.Trace.{Trace}
 use Rattle.act_probe.specs.Chains.{ChainAt, IsAt}
-use Rattle.act_probe.specs.Passes.{IsOn}
+use Rattle.act_probe.specs.Passes.{HasTaken}
 use Rattle.act_probe.specs.Sweeps.{Ascends, Follows, Passes, at_rest, last_at, odd_by, traced, vertex_at, walk_of}
 use Rattle.act_probe.proofs.ChainFacts.{at_ahead, going, next_word, word_here}
 use Rattle.act_probe.proofs.SweepFacts.{front_here, front_more}
@@ -139,9 +139,9 @@ all_counted t next xs now i past is =
 
 -- the words that stand in the row at hand were taken for each candidate
 pub on_ahead : (x : Sight) (next : List ℕ) (first : ℕ) (zones : ℕ → Zone) (origin : List Candidate) (all : All (λ (c : Candidate). ChainAt x (zones c.slot) first) origin) (chain : Chain) (t u : Trace) (old new : List Candidate)
-    (k n : ℕ) → chain.place + n ≤ 255 → ((i : ℕ) → i < n → get_or next i 0 ≡ x.word chain.row (chain.place + 1 + i)) → IsOn x first zones origin all chain t old k
+    (k n : ℕ) → chain.place + n ≤ 255 → ((i : ℕ) → i < n → get_or next i 0 ≡ x.word chain.row (chain.place + 1 + i)) → HasTaken x first zones origin all chain t old k
     → ((j : ℕ) (d : Candidate) → j < length origin → Passes next n t (get_or old j d) u (get_or new j d))
-    → IsOn x first zones origin all (record chain { place = chain.place + n }) u new (k + n)
+    → HasTaken x first zones origin all (record chain { place = chain.place + n }) u new (k + n)
 on_ahead x next first zones origin all chain t u old new k n within are on passes = λ i d inside.
     let zone = zones (get_or origin i d).slot in
     let c = all i d inside in
@@ -156,11 +156,11 @@ on_ahead x next first zones origin all chain t u old new k n within are on passe
 
 -- a word was taken for each candidate, and was not the last one
 pub on_fed : (x : Sight) (first : ℕ) (zones : ℕ → Zone) (origin : List Candidate) (all : All (λ (c : Candidate). ChainAt x (zones c.slot) first) origin) (chain next : Chain) (t u : Trace) (old new : List Candidate)
-    (k word : ℕ) (done : Bool) → done ≡ false → length old ≡ length origin → IsOn x first zones origin all chain t old k
+    (k word : ℕ) (done : Bool) → done ≡ false → length old ≡ length origin → HasTaken x first zones origin all chain t old k
     → ((zone : Zone) (c : ChainAt x zone first) (m : ℕ) → m < length (body_of zone.shape) → IsAt x zone first c chain.row chain.next chain.passed chain.place m
     → (word ≡ slice_index (body_of zone.shape) m) × IsAt x zone first c next.row next.next next.passed next.place (m + 1))
     → ((j : ℕ) (d : Candidate) → j < length old → Follows t (get_or old j d) word done u (get_or new j d))
-    → IsOn x first zones origin all next u new (k + 1)
+    → HasTaken x first zones origin all next u new (k + 1)
 on_fed x first zones origin all chain next t u old new k word done going_on long on taken follows = λ i d inside.
     let zone = zones (get_or origin i d).slot in
     let c = all i d inside in

@@ -12,8 +12,8 @@ use Rattle.act_probe.specs.Chains.{ChainAt, IsAt}
 use Rattle.act_probe.specs.Sweeps.{walk_of}
 
 -- the first k words were taken, and the walk of each candidate expects those after them
-abbrev pub IsOn : (x : Sight) (first : ℕ) (zones : ℕ → Zone) (origin : List Candidate) → All (λ (c : Candidate). ChainAt x (zones c.slot) first) origin → Chain → Trace → List Candidate → ℕ → Type 0
-IsOn x first zones origin all chain trace run k =
+abbrev pub HasTaken : (x : Sight) (first : ℕ) (zones : ℕ → Zone) (origin : List Candidate) → All (λ (c : Candidate). ChainAt x (zones c.slot) first) origin → Chain → Trace → List Candidate → ℕ → Type 0
+HasTaken x first zones origin all chain trace run k =
     (i : ℕ) (d : Candidate) (inside : i < length origin)
     → IsAt x (zones (slice_index_or origin i d).slot) first (all i d inside) chain.row chain.next chain.passed chain.place k
     × Expects (walk_of trace (slice_index_or run i d)) (drop k (body_of (zones (slice_index_or origin i d).slot).shape)) (is_inside (zones (slice_index_or origin i d).slot).shape (slice_index_or origin i d).point)

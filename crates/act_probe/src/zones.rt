@@ -9,7 +9,7 @@ ghost use Rattle.act_probe.specs.Chains.{ChainAt};
 ghost use Rattle.act_probe.specs.Reads.{body_reads};
 ghost use Rattle.act_probe.specs.Batches.{answered};
 ghost use Rattle.act_probe.specs.Sweeps.{Ascends, IsSet, Passes, at_rest};
-ghost use Rattle.act_probe.specs.Passes.{IsOn};
+ghost use Rattle.act_probe.specs.Passes.{HasTaken};
 
 use crate::buffers::Candidate;
 use crate::chain::{Chain, LAST_PLACE, MOST_WORDS, begin, take};
@@ -113,12 +113,12 @@ fn pass<W: Words, L: Ledger>(
     steps: &mut Steps<L>,
 ) -> u64
     requires on { (zones : ℕ → Zone) × (origin : List Candidate) × (all : All (λ c. ChainAt (W.image words.old) (zones c.slot) first) origin) × (k : ℕ) × (0 < length origin)
-        × IsOn (W.image words.old) first zones origin all chain.old trace.old run.old k }
+        × HasTaken (W.image words.old) first zones origin all chain.old trace.old run.old k }
     requires ascends { Ascends run.old }
     requires set { IsSet trace.old run.old }
     ensures same { words.new ≡ words.old }
     ensures on { (zones : ℕ → Zone) (origin : List Candidate) (all : All (λ c. ChainAt (W.image words.old) (zones c.slot) first) origin) (k : ℕ) → length run.old ≡ length origin
-        → IsOn (W.image words.old) first zones origin all chain.old trace.old run.old k → IsOn (W.image words.old) first zones origin all chain.new trace.new run.new (k + result) }
+        → HasTaken (W.image words.old) first zones origin all chain.old trace.old run.old k → HasTaken (W.image words.old) first zones origin all chain.new trace.new run.new (k + result) }
     ensures rest { map at_rest run.new ≡ map at_rest run.old }
     ensures ascends { Ascends run.new }
     ensures set { IsSet trace.new run.new }

@@ -3,7 +3,7 @@ use Rattle.act_super.specs.declared.entry.Zone.{Zone}
 use Rattle.act_probe.specs.declared.buffers.Candidate.{Candidate}
 use Rattle.act_probe.specs.declared.trace.Stage.TheVariants.{Rings}
 use Rattle.act_probe.specs.Chains.{ChainAt}
-use Rattle.act_probe.specs.Passes.{IsOn}
+use Rattle.act_probe.specs.Passes.{HasTaken}
 use Rattle.act_probe.specs.Sweeps.{Ascends, IsSet, at_rest}
 use Rattle.act_probe.proofs.zones.sweep.Given as goal
 
@@ -19,7 +19,7 @@ invariant-loop-k g l = record {
   set : IsSet l.trace l.run;
   rest : map at_rest l.run ≡ map at_rest l.fn.run;
   on : (zones : ℕ → Zone) (all : All (λ (c : Candidate). ChainAt (g.W.Words.image l.fn.words) (zones c.slot) l.fn.row) l.fn.run)
-      → IsOn (g.W.Words.image l.fn.words) l.fn.row zones l.fn.run all l.chain l.trace l.run l.k;
+      → HasTaken (g.W.Words.image l.fn.words) l.fn.row zones l.fn.run all l.chain l.trace l.run l.k;
 }
 
 abbrev pub decreases-loop-k : goal.decreases-loop-k
