@@ -1,6 +1,6 @@
 //! What a reader keeps from batch to batch.
 
-ghost use Rattle.std.specs.Prelude.{◌≡◌};
+ghost use Rattle.std.specs.Prelude.{◌≡◌, []};
 
 use crate::group::Way;
 use act_grid::Point;
@@ -50,7 +50,10 @@ pub struct Buffers {
 
 impl Buffers {
     /// Empty buffers, which take no memory yet.
-    pub fn new(alloc: Global) -> Buffers {
+    pub fn new(alloc: Global) -> Buffers
+        ensures hits { result.found.hits.items ≡ [] }
+        ensures reads { result.found.reads ≡ 0 }
+    {
         let found = Found {
             hits: Vec::new(alloc),
             kept: Vec::new(alloc),

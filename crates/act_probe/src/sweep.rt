@@ -40,6 +40,7 @@ fn is_left(a: Point, b: Point, p: Point) -> bool
     is_below(right, left)
 }
 
+/// Whether a column lies west of another one.
 #[inline]
 fn is_west(x: i32, other: i32) -> bool
     ensures { result ≡ int_lt x other }
