@@ -23,13 +23,13 @@ module _ {X : Type 0} (f g : X → ℕ) (xs : List X) where
     pub went_on : new + sum_by f (take (i + 1) xs) ≤ old + sum_by g (take (i + 1) xs)
     went_on = omega (arith, few, one, sum_by_more f xs i d within, sum_by_more g xs i d within)
 
--- the next group of a list that is cut into groups of sixteen
-module _ {X : Type 0} (xs : List X) (k e : ℕ) (more : k * 16 < length xs) (end : e ≡ min (k * 16 + 16) (length xs)) where
-  pub next_group : take ((k + 1) * 16) xs ≡ take (k * 16) xs ++ take (e - k * 16) (drop (k * 16) xs)
+-- the next group of a list that is cut into groups of sixty-four
+module _ {X : Type 0} (xs : List X) (k e : ℕ) (more : k * 64 < length xs) (end : e ≡ min (k * 64 + 64) (length xs)) where
+  pub next_group : take ((k + 1) * 64) xs ≡ take (k * 64) xs ++ take (e - k * 64) (drop (k * 64) xs)
   next_group =
-      let many : (k + 1) * 16 ≡ k * 16 + 16 = omega arith in
-      let parts : e ≡ k * 16 + (e - k * 16) = omega (arith, end, more) in
-      ap (λ n. take n xs) many ∙ sym (take_min (k * 16 + 16) xs) ∙ ap (λ n. take n xs) (sym end ∙ parts) ∙ take-add (k * 16) (e - k * 16) xs
+      let many : (k + 1) * 64 ≡ k * 64 + 64 = omega arith in
+      let parts : e ≡ k * 64 + (e - k * 64) = omega (arith, end, more) in
+      ap (λ n. take n xs) many ∙ sym (take_min (k * 64 + 64) xs) ∙ ap (λ n. take n xs) (sym end ∙ parts) ∙ take-add (k * 64) (e - k * 64) xs
 
-  pub group_long : length (take ((k + 1) * 16) xs) ≡ length (take (k * 16) xs) + length (take (e - k * 16) (drop (k * 16) xs))
-  group_long = ap length next_group ∙ length-append (take (k * 16) xs) (take (e - k * 16) (drop (k * 16) xs))
+  pub group_long : length (take ((k + 1) * 64) xs) ≡ length (take (k * 64) xs) + length (take (e - k * 64) (drop (k * 64) xs))
+  group_long = ap length next_group ∙ length-append (take (k * 64) xs) (take (e - k * 64) (drop (k * 64) xs))

@@ -22,7 +22,7 @@ use act_grid::{Layers, NoMemory, Point};
 use std::sync::ledger::Ledger;
 
 /// The points that go down together: enough that their loads overlap.
-const GROUP: usize = 16;
+const GROUP: usize = 64;
 
 /// Takes the references of the leaf that a way has reached.
 #[inline]

@@ -43,7 +43,7 @@ fn no_zones(rt: HostRuntime) -> Result<(), Fail> {
     Ok(())
 }
 
-/// How many pairs twenty points have, of which each group has one elsewhere, and how many words are read.
+/// How many pairs eighty points have, of which each group has one elsewhere, and how many words are read.
 fn joined<L: Ledger>(
     alloc: Global,
     blank: Blank,
@@ -54,9 +54,9 @@ fn joined<L: Ledger>(
 {
     let mut steps = Steps::<L>::new(blank);
     let mut buffers = Buffers::new(alloc);
-    let mut points = [Point { x: 3, y: -4 }; 20];
+    let mut points = [Point { x: 3, y: -4 }; 80];
     points[7] = elsewhere;
-    points[17] = elsewhere;
+    points[77] = elsewhere;
     let reads = probe_batch(
         &mut Zeros,
         1,
@@ -72,7 +72,7 @@ fn joined<L: Ledger>(
 fn no_pairs(rt: HostRuntime) -> Result<(), Fail> {
     let (pairs, reads) = joined::<Brand>(rt.alloc(), Blank::new(1), Point { x: -3, y: 4 })?;
     assert_eq!(rt; pairs, 0);
-    assert_eq!(rt; reads, 20);
+    assert_eq!(rt; reads, 80);
     Ok(())
 }
 
