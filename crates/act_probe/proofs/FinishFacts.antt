@@ -95,7 +95,7 @@ module _ (x : Sight) (found : Found) (mets : List Met) (h : Holds x found mets) 
   asks_from =
       each_candidate (λ (c : Candidate). Asks x (zone_of mets c.slot) c) x 0 mets (λ k within is.
       let e : 0 + k ≡ k = omega arith in
-      record { chain = rw e (h.chains k no_met within); head = refl; even = refl })
+      record { chain = rw e (h.chains k no_met within); next = refl; even = refl })
 
   abbrev answers : List Bool
   answers = map is_held mets

@@ -1,5 +1,5 @@
 -- The zones that meet the leaf of a point.
-use Rattle.std.proofs.Common.{◌≡◌, ℕ, zero, suc, ◌+◌, ◌++◌, Bool, true, false, not, ◌&&◌, cond, refl, sym, ap, ◌∙◌, subst, arith, List, [], ◌∷◌, append_assoc, append-nil, drop, length, take}
+use Rattle.std.proofs.Common.{◌≡◌, ℕ, zero, suc, ◌+◌, ◌%◌, ◌^◌, ◌++◌, Bool, true, false, not, ◌&&◌, cond, refl, sym, ap, ◌∙◌, subst, arith, List, [], ◌∷◌, append_assoc, append-nil, drop, length, take}
 use Rattle.std.specs.Prelude.{sum_by}
 use Rattle.std.proofs.lemmas.List.{map-append, length-map}
 use Rattle.std.proofs.lemmas.List.Elements.{All-append, All-cons, All-nil}
@@ -46,7 +46,7 @@ module _ (x : Sight) (layers : Layers) (place : ℕ) (p : Point) (r : Ref) (zone
 
   pub put_in : has_layer layers (layer_of zone.key) ≡ true → Holds x old mets → ChainAt x zone r.row → new.hits.items ≡ old.hits.items ++ record { point = place; key = zone.key } ∷ []
       → new.kept.items ≡ old.kept.items ++ r.hit ∷ []
-      → new.candidates.items ≡ old.candidates.items ++ cond r.hit [] (record { head = x.word r.row 0; row = r.row; slot = length old.hits.items; point = p; odd = false } ∷ [])
+      → new.candidates.items ≡ old.candidates.items ++ cond r.hit [] (record { row = r.row; next = x.word r.row 0 % 2 ^ 32; slot = length old.hits.items; point = p; odd = false } ∷ [])
       → Holds x new (mets ++ met_by layers place p r zone)
   put_in has holds chain hits kept candidates =
       rw has (held_more x old new mets (record { place = place; point = p; zone = zone; row = r.row; hit = r.hit }) holds chain hits kept candidates)

@@ -11,7 +11,7 @@ use Rattle.act_probe.specs.Batches.{Settles, answered, chosen}
 
 -- what stands behind the last candidate, and behind the last pair
 abbrev pub no_candidate : Candidate
-no_candidate = record { head = 0; row = 0; slot = 0; point = record { x = pos 0; y = pos 0 }; odd = false }
+no_candidate = record { row = 0; next = 0; slot = 0; point = record { x = pos 0; y = pos 0 }; odd = false }
 
 abbrev pub no_pair : Pair
 no_pair = record { point = 0; key = 0 }

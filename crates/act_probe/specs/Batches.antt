@@ -1,5 +1,5 @@
 -- Batches of points, and the pairs of points with zones.
-use Rattle.std.specs.Prelude.{◌≡◌, ◌⊎◌, ℕ, ◌+◌, ◌<◌, ◌≤◌, ◌++◌, Contains, length, slice_index_or, [], ◌∷◌, ◌||◌, Bool, false, cond, List, All, filter, map, sum_by, vec_capacity}
+use Rattle.std.specs.Prelude.{◌≡◌, ◌⊎◌, ℕ, ◌+◌, ◌%◌, ◌^◌, ◌<◌, ◌≤◌, ◌++◌, Contains, length, slice_index_or, [], ◌∷◌, ◌||◌, Bool, false, cond, List, All, filter, map, sum_by, vec_capacity}
 use Rattle.act_grid.specs.declared.layers.Layers.{Layers}
 use Rattle.act_grid.specs.declared.Point.{Point}
 use Rattle.act_grid.specs.declared.Settings.{Settings}
@@ -56,7 +56,7 @@ mets_by layers place p (zone ∷ zones) (r ∷ refs) = met_by layers place p r z
 
 -- the candidates among them, by their slots from i on
 abbrev pub candidate_of : Sight → ℕ → Met → Candidate
-candidate_of x i m = record { head = x.word m.row 0; row = m.row; slot = i; point = m.point; odd = false }
+candidate_of x i m = record { row = m.row; next = x.word m.row 0 % 2 ^ 32; slot = i; point = m.point; odd = false }
 
 abbrev pub candidates_from : Sight → ℕ → List Met → List Candidate
 candidates_from x i [] = []
@@ -95,7 +95,7 @@ pub record Gathers (x : Sight) (settings : Settings) (state : State) (layers : L
 -- a candidate of this zone, which isn't tested yet
 pub record Asks (x : Sight) (zone : Zone) (c : Candidate) : Type 0 where
   pub chain : ChainAt x zone c.row
-  pub head : c.head ≡ x.word c.row 0
+  pub next : c.next ≡ x.word c.row 0 % 2 ^ 32
   pub even : c.odd ≡ false
 
 -- the candidate once it was tested, by the zones of the slots

@@ -16,9 +16,9 @@ pub struct Hit {
 /// A point that is still to be tested in a zone.
 #[derive(Clone, Copy, Debug, PartialEq, Eq)]
 pub(crate) struct Candidate {
-    /// The first word of the zone's chain, and the row that it stands in.
-    pub head: u64,
+    /// The first row of the zone's chain, and the one after it.
     pub row: u32,
+    pub next: u32,
     /// Where the pair of the point with the zone stands among the pairs.
     pub slot: u32,
     pub point: Point,

@@ -30,16 +30,16 @@ pub(crate) struct Chain {
     pub place: u8,
 }
 
-/// The place before the body in the chain that begins at a row, whose first word was read already.
-pub(crate) fn begin(row: u32, head: u64) -> Chain
+/// The place before the body in the chain that begins at a row and goes on at the next one.
+pub(crate) fn begin(row: u32, next: u32) -> Chain
     ensures row { result.row ≡ row }
-    ensures next { result.next ≡ head % 2 ^ 32 }
+    ensures next { result.next ≡ next }
     ensures passed { result.passed ≡ 0 }
     ensures place { result.place ≡ 0 }
 {
     Chain {
         row,
-        next: chain_next(head),
+        next,
         passed: 0,
         place: 0,
     }

@@ -1,6 +1,6 @@
 //! The zones that meet the leaves of points.
 
-ghost use Rattle.std.specs.Prelude.{◌≡◌, ◌+◌, ◌*◌, ◌/◌, ◌<◌, ◌≤◌, ◌^◌, ◌++◌, ◌∷◌, [], Bool, List, cond, drop, false, length, take};
+ghost use Rattle.std.specs.Prelude.{◌≡◌, ◌+◌, ◌*◌, ◌/◌, ◌%◌, ◌<◌, ◌≤◌, ◌^◌, ◌++◌, ◌∷◌, [], Bool, List, cond, drop, false, length, take};
 ghost use Rattle.std.specs.Option.{option_to_list};
 ghost use Rattle.act_base.specs.Counting.{times};
 ghost use Rattle.act_entry.specs.declared.reference.Ref.{Ref};
@@ -13,7 +13,7 @@ ghost use Rattle.act_probe.specs.Batches.{Grows, HasRoom, Holds, Met, met_by, me
 use crate::buffers::{Candidate, Found, Hit};
 use crate::words::Words;
 use act_base::Steps;
-use act_entry::{Entry, Ref, chain_key, unpack};
+use act_entry::{Entry, Ref, chain_key, chain_next, unpack};
 use act_grid::{Layers, Point};
 use std::sync::ledger::Ledger;
 
@@ -25,7 +25,7 @@ fn put(found: &mut Found, r: Ref, head: u64, place: u32, point: Point)
     ensures hits { found.new.hits.items ≡ found.old.hits.items ++ record { point = place; key = head / 2 ^ 32 } ∷ [] }
     ensures kept { found.new.kept.items ≡ found.old.kept.items ++ r.hit ∷ [] }
     ensures candidates { found.new.candidates.items ≡ found.old.candidates.items
-        ++ cond r.hit [] (record { head = head; row = r.row; slot = length found.old.hits.items; point = point; odd = false } ∷ []) }
+        ++ cond r.hit [] (record { row = r.row; next = head % 2 ^ 32; slot = length found.old.hits.items; point = point; odd = false } ∷ []) }
     ensures reads { found.new.reads ≡ found.old.reads }
     ensures grows { Grows found.old found.new 1 }
 {
@@ -39,8 +39,8 @@ fn put(found: &mut Found, r: Ref, head: u64, place: u32, point: Point)
         return;
     }
     found.candidates.push_reserved(Candidate {
-        head,
         row: r.row,
+        next: chain_next(head),
         slot,
         point,
         odd: false,

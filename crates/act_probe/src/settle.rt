@@ -55,7 +55,7 @@ fn resolve_zone<W: Words, L: Ledger>(
     ensures bound { reads.new ≤ reads.old + 699052 * length run.old }
 {
     let first = run[0];
-    sweep(words, first.row, first.head, buffer, run, reads, steps);
+    sweep(words, first.row, first.next, buffer, run, reads, steps);
 }
 
 /// Tests the candidates, zone by zone. The words of a zone are read once.

@@ -1,6 +1,6 @@
 //! The candidates of each zone, tested together.
 
-ghost use Rattle.std.specs.Prelude.{◌≡◌, ℕ, ◌+◌, ◌<◌, ◌≤◌, ◌^◌, All, List, false, length, map, slice_index, slice_index_or};
+ghost use Rattle.std.specs.Prelude.{◌≡◌, ℕ, ◌+◌, ◌<◌, ◌≤◌, ◌^◌, ◌%◌, All, List, false, length, map, slice_index, slice_index_or};
 ghost use Rattle.act_base.specs.Counting.{times};
 ghost use Rattle.act_super.specs.declared.entry.Zone.{Zone};
 ghost use Rattle.act_probe.specs.declared.buffers.Candidate.{Candidate};
@@ -140,19 +140,19 @@ fn pass<W: Words, L: Ledger>(
     u64::from(count)
 }
 
-/// Tests the candidates of the zone whose chain begins at the row, whose first word was read already. The words of
+/// Tests the candidates of the zone whose chain begins at the row and goes on at the next one. The words of
 /// its polygon are read once.
 pub(crate) fn sweep<W: Words, L: Ledger>(
     words: &mut W,
     row: u32,
-    head: u64,
+    next: u32,
     buffer: &mut [u64; ROOM],
     run: &mut [Candidate],
     reads: &mut u64,
     steps: &mut Steps<L>,
 )
     requires chains { (zones : ℕ → Zone) × All (λ c. ChainAt (W.image words.old) (zones c.slot) row) run.old }
-    requires head { head ≡ (W.image words.old).word row 0 }
+    requires next { next ≡ (W.image words.old).word row 0 % 2 ^ 32 }
     requires some { 0 < length run.old }
     requires even { All (λ c. c.odd ≡ false) run.old }
     requires ascends { Ascends run.old }
@@ -165,7 +165,7 @@ pub(crate) fn sweep<W: Words, L: Ledger>(
     ensures bound { reads.new ≤ reads.old + 699052 }
 {
     let mut trace = Trace::start();
-    let mut chain = begin(row, head);
+    let mut chain = begin(row, next);
     let mut k = 0;
     while k < MOST_WORDS {
         let word = take(&mut chain, row, words, steps);

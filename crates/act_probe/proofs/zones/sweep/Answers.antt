@@ -22,7 +22,7 @@ loop-k-init g c = record {
   on = λ zones all i d inside. (
     record {
       row_is = c.begin-chain.ensures.row ∙ sym (all i d inside).first ∙ ap (λ n. get_or (all i d inside).rows n 0) (sym c.begin-chain.ensures.passed);
-      next_is = c.begin-chain.ensures.next ∙ second_row (all i d inside) c.args.head c.requires.head ∙ ap (λ n. get_or (all i d inside).rows (n + 1) 0) (sym c.begin-chain.ensures.passed);
+      next_is = c.begin-chain.ensures.next ∙ c.requires.next ∙ second_row (all i d inside) _ refl ∙ ap (λ n. get_or (all i d inside).rows (n + 1) 0) (sym c.begin-chain.ensures.passed);
       read = omega (arith, c.begin-chain.ensures.passed, c.begin-chain.ensures.place);
       within = omega (arith, c.begin-chain.ensures.place);
     },
