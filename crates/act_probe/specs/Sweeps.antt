@@ -1,6 +1,7 @@
 -- The candidates of one zone, tested by one way over its words.
-use Rattle.std.specs.Prelude.{◌≡◌, ◌≢◌, ℕ, ℤ, zero, suc, pos, ◌+◌, ◌-◌, ◌-ℤ◌, ◌/◌, ◌%◌, ◌^◌, ◌<◌, ◌≤◌, ◌<ℤ◌, ◌≤ℤ◌, Bool, true, false, List, [], ◌∷◌, drop, length, slice_index, slice_index_or}
+use Rattle.std.specs.Prelude.{◌≡◌, ◌≢◌, ℕ, ℤ, ◌+◌, ◌<◌, ◌≤◌, ◌<ℤ◌, ◌≤ℤ◌, Bool, true, false, List, [], ◌∷◌, drop, length, slice_index, slice_index_or}
 use Rattle.act_grid.specs.declared.Point.{Point}
+use Rattle.act_base.specs.Sight.{Sight}
 use Rattle.act_geom.specs.Inside.{counts, differ}
 use Rattle.act_geom.specs.Walk.{Expects}
 use Rattle.act_geom.specs.declared.walk.Phase.{Phase}
@@ -59,24 +60,6 @@ walk_of t c = record {
   last = t.last;
 }
 
--- the vertex of a word
-abbrev pub vertex_at : ℕ → Point
-vertex_at word = record { x = pos (word / 2 ^ 32) -ℤ pos (2 ^ 31); y = pos (word % 2 ^ 32) -ℤ pos (2 ^ 31) }
-
--- the last of the first k of these vertices, which come after one
-abbrev pub last_at : Point → List ℕ → ℕ → Point
-last_at before words zero = before
-last_at before words (suc k) = vertex_at (slice_index words k)
-
--- an odd number of the edges to them counts for the point
-abbrev pub odd_by : Point → Point → List ℕ → ℕ → Bool
-odd_by p before words zero = false
-odd_by p before words (suc k) = differ (odd_by p before words k) (counts p (record { a = last_at before words k; b = vertex_at (slice_index words k) }))
-
--- the trace behind them
-abbrev pub traced : Trace → List ℕ → ℕ → Trace
-traced t words k = record t { vertices = t.vertices - k; last = last_at t.last words k }
-
 -- the words have come to their end, or go on
 abbrev pub Ends : Bool → Walk → List ℕ → Bool → Type 0
 Ends true w words answer = (words ≡ []) × (w.odd ≡ answer)
@@ -87,10 +70,10 @@ abbrev pub Follows : Trace → Candidate → ℕ → Bool → Trace → Candidat
 Follows old before word done new after =
     (words : List ℕ) (answer : Bool) → Expects (walk_of old before) (word ∷ words) answer → Ends done (walk_of new after) words answer
 
--- what becomes of a candidate's walk by the first of these words, where they are the next words of a body
-abbrev pub Passes : (next : List ℕ) (count : ℕ) → Trace → Candidate → Trace → Candidate → Type 0
-Passes next count old before new after =
-    (body : List ℕ) (k : ℕ) (answer : Bool) → ((i : ℕ) → i < count → k + i < length body → slice_index next i ≡ slice_index body (k + i))
+-- what becomes of a candidate's walk by so many words of a row behind a place, where they are the next words of a body
+abbrev pub Passes : Sight → (row place count : ℕ) → Trace → Candidate → Trace → Candidate → Type 0
+Passes x row place count old before new after =
+    (body : List ℕ) (k : ℕ) (answer : Bool) → ((i : ℕ) → i < count → k + i < length body → x.word row (place + 1 + i) ≡ slice_index body (k + i))
     → Expects (walk_of old before) (drop k body) answer → Expects (walk_of new after) (drop (k + count) body) answer
 
 -- the place is that of the last vertex's row

@@ -14,7 +14,7 @@ ghost use Rattle.act_probe.specs.Batches.{Asks, Gathers, Settles, answered, chos
 use crate::buffers::{Candidate, Found, Hit};
 use crate::order::order;
 use crate::words::Words;
-use crate::zones::{ROOM, sweep};
+use crate::zones::sweep;
 use act_base::Steps;
 use act_grid::NoMemory;
 use std::sync::ledger::Ledger;
@@ -37,7 +37,6 @@ fn run_end(candidates: &[Candidate], start: usize) -> usize
 /// Tests candidates of one zone.
 fn resolve_zone<W: Words, L: Ledger>(
     words: &mut W,
-    buffer: &mut [u64; ROOM],
     run: &mut [Candidate],
     reads: &mut u64,
     steps: &mut Steps<L>,
@@ -55,7 +54,7 @@ fn resolve_zone<W: Words, L: Ledger>(
     ensures bound { reads.new ≤ reads.old + 699052 * length run.old }
 {
     let first = run[0];
-    sweep(words, first.row, first.next, buffer, run, reads, steps);
+    sweep(words, first.row, first.next, run, reads, steps);
 }
 
 /// Tests the candidates, zone by zone. The words of a zone are read once.
@@ -75,17 +74,10 @@ fn resolve<W: Words, L: Ledger>(
     ensures ticks { steps.new + reads.old ≡ steps.old + reads.new }
     ensures bound { reads.new ≤ reads.old + 699052 * length candidates.old }
 {
-    let mut buffer = [0; ROOM];
     let mut start = 0;
     while start < candidates.len() {
         let end = run_end(candidates, start);
-        resolve_zone(
-            words,
-            &mut buffer,
-            &mut candidates[start..end],
-            reads,
-            steps,
-        );
+        resolve_zone(words, &mut candidates[start..end], reads, steps);
         start = end;
     }
 }

@@ -154,6 +154,7 @@ fn is_last_above(run: &[Candidate], at: usize, v: Point) -> bool
 
 /// Counts an edge from `a` to `b`. Only the candidates of the rows between its ends are looked at, and where there are none, it
 /// isn't asked which end is the higher one.
+#[inline(always)]
 pub(crate) fn cross(run: &mut [Candidate], at: usize, a: Point, b: Point) -> usize
     requires ascends { Ascends run.old }
     requires placed { IsPlacedAt a.y at run.old }

@@ -1,13 +1,11 @@
 //! A way over the words of a body for all candidates of a zone.
 
-ghost use Rattle.std.specs.Prelude.{◌≡◌, ℕ, ◌+◌, ◌<◌, ◌≤◌, ◌+ℤ◌, ◌-ℤ◌, ◌^◌, pos, int_lt, All, false, length, map, slice_index_or};
-ghost use Rattle.act_probe.specs.Sweeps.{last_at, odd_by, traced, vertex_at};
+ghost use Rattle.std.specs.Prelude.{◌≡◌, ℕ, ◌+◌, ◌<◌, ◌≤◌, ◌-ℤ◌, ◌^◌, pos, All, false, length, map, slice_index_or};
 ghost use Rattle.act_geom.specs.Body.{vertex_word};
 ghost use Rattle.act_probe.specs.declared.buffers.Candidate.{Candidate};
 
 use crate::buffers::Candidate;
 use crate::sweep::{cross, seek};
-use act_geom::edge_counts;
 use act_grid::Point;
 
 /// Which word comes next.
@@ -39,29 +37,12 @@ pub(crate) struct Trace {
 /// The vertex of a word.
 #[inline]
 fn vertex(word: u64) -> Point
-    ensures is { result ≡ vertex_at word }
-    ensures read { (v : Point) → vertex_word v ≡ word → result ≡ v }
+    ensures { (v : Point) → vertex_word v ≡ word → result ≡ v }
 {
     Point {
         x: coordinate(word >> 32),
-        y: row(word),
+        y: coordinate(word & 0xffff_ffff),
     }
-}
-
-/// The row of the vertex of a word.
-#[inline]
-fn row(word: u64) -> i32
-    ensures { result ≡ (vertex_at word).y }
-{
-    coordinate(word & 0xffff_ffff)
-}
-
-/// Whether a point lies below a row.
-#[inline]
-fn is_under(p: Point, y: i32) -> bool
-    ensures { result ≡ int_lt p.y y }
-{
-    p.y < y
 }
 
 /// The coordinate that is so far from the low side of the grid.
@@ -177,7 +158,7 @@ impl Trace {
     }
 
     /// Takes a vertex that isn't the last one of its ring.
-    #[inline]
+    #[inline(always)]
     pub(crate) fn feed_inner(&mut self, word: u64, run: &mut [Candidate])
         requires stage { self.old.stage ≡ Next }
         requires more { 1 < self.old.vertices }
@@ -194,59 +175,6 @@ impl Trace {
         self.at = cross(run, self.at, self.last, to);
         self.last = to;
         self.vertices -= 1;
-    }
-
-    /// Goes past vertices none of which is the last one of its ring. The place among the candidates is left as it was.
-    pub(crate) fn skip(&mut self, words: &[u64])
-        requires { length words.now < self.old.vertices }
-        ensures { self.new ≡ traced self.old words.now (length words.now) }
-    {
-        let count = words.len();
-        if count == 0 {
-            return;
-        }
-        self.last = vertex(words[count - 1]);
-        self.vertices -= count as u64;
-    }
-
-    /// Whether an odd number of the edges from the last vertex on to these vertices counts for a point.
-    pub(crate) fn is_odd_past(&self, words: &[u64], p: Point) -> bool
-        ensures { result ≡ odd_by p self.now.last words.now (length words.now) }
-    {
-        let mut odd = false;
-        let mut under = is_under(p, self.last.y);
-        for i in 0..words.len() {
-            let now = is_under(p, row(words[i]));
-            if now != under {
-                odd ^= edge_counts(self.vertex_before(words, i), vertex(words[i]), p);
-            }
-            under = now;
-        }
-        odd
-    }
-
-    /// The vertex before that of a word.
-    #[inline]
-    fn vertex_before(&self, words: &[u64], i: usize) -> Point
-        requires { i < length words.now }
-        ensures { result ≡ last_at self.now.last words.now i }
-    {
-        if i == 0 {
-            return self.last;
-        }
-        vertex(words[i - 1])
-    }
-
-    /// Finds the place of the last vertex's row among the candidates anew.
-    #[inline]
-    pub(crate) fn set(&mut self, run: &[Candidate])
-        requires ascends { Ascends run.now }
-        requires within { self.old.at ≤ length run.now }
-        ensures same { (c : Candidate) → walk_of self.new c ≡ walk_of self.old c }
-        ensures set { IsSet self.new run.now }
-        ensures stage { self.new.stage ≡ self.old.stage }
-    {
-        self.at = seek(run, self.at, self.last);
     }
 
     /// Takes the next word, and says whether it was the last one. At the last word of a body an odd count

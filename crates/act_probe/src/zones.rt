@@ -1,6 +1,6 @@
 //! The candidates of each zone, tested together.
 
-ghost use Rattle.std.specs.Prelude.{◌≡◌, ℕ, ◌+◌, ◌<◌, ◌≤◌, ◌^◌, ◌%◌, All, List, false, length, map, slice_index, slice_index_or};
+ghost use Rattle.std.specs.Prelude.{◌≡◌, ℕ, ◌+◌, ◌<◌, ◌≤◌, ◌^◌, ◌%◌, All, List, false, length, map, slice_index_or};
 ghost use Rattle.act_base.specs.Counting.{times};
 ghost use Rattle.act_super.specs.declared.entry.Zone.{Zone};
 ghost use Rattle.act_probe.specs.declared.buffers.Candidate.{Candidate};
@@ -18,88 +18,36 @@ use crate::words::Words;
 use act_base::Steps;
 use std::sync::ledger::Ledger;
 
-/// How many words of a body a row has at most.
-pub(crate) const ROOM: usize = 255;
-
-/// So few candidates of a zone are sooner tested one by one: a way over the words for all of them asks more of each edge than
-/// on which side of one row its ends lie.
-const FEW: usize = 2;
-
-/// Reads the words of a row behind a place, one right after the other: none waits for what another one decides.
-fn read_row<W: Words, L: Ledger>(
+/// Takes so many words of a row behind a place for all candidates: vertices, and none is the last one of its ring.
+fn pass_row<W: Words, L: Ledger>(
     words: &mut W,
     row: u32,
     place: u8,
-    body: &mut [u64],
+    count: u8,
+    trace: &mut Trace,
+    run: &mut [Candidate],
     steps: &mut Steps<L>,
 )
     requires held { 0 < times (W.image words.old).rows row }
-    requires within { place + length body.old ≤ 255 }
-    ensures same { words.new ≡ words.old }
-    ensures body { (i : ℕ) → i < length body.new → slice_index body.new i ≡ (W.image words.old).word row (place + 1 + i) }
-    ensures long { length body.new ≡ length body.old }
-    ensures ticks { steps.new ≡ steps.old + length body.old }
-{
-    for i in 0..body.len() {
-        body[i] = words.word(row, place + 1 + i as u8, steps);
-    }
-}
-
-/// Takes words of a body for all candidates: vertices, and none is the last one of its ring.
-fn pass_all(body: &[u64], trace: &mut Trace, run: &mut [Candidate])
+    requires within { place + count ≤ 255 }
     requires stage { trace.old.stage ≡ Next }
-    requires more { length body.now < trace.old.vertices }
+    requires more { count < trace.old.vertices }
     requires ascends { Ascends run.old }
     requires set { IsSet trace.old run.old }
-    ensures passes { (j : ℕ) (d : Candidate) → j < length run.old → Passes body.now (length body.now) trace.old (slice_index_or run.old j d) trace.new (slice_index_or run.new j d) }
+    ensures same { words.new ≡ words.old }
+    ensures passes { (j : ℕ) (d : Candidate) → j < length run.old → Passes (W.image words.old) row place count trace.old (slice_index_or run.old j d) trace.new (slice_index_or run.new j d) }
     ensures rest { map at_rest run.new ≡ map at_rest run.old }
     ensures ascends { Ascends run.new }
     ensures set { IsSet trace.new run.new }
     ensures stage { trace.new.stage ≡ Next }
+    ensures ticks { steps.new ≡ steps.old + count }
 {
     let mut now = *trace;
-    for word in body {
-        now.feed_inner(*word, run);
+    for i in 0..count {
+        let word = words.word(row, place + 1 + i, steps);
+        now.feed_inner(word, run);
     }
     *trace = now;
-}
-
-/// The same for a few candidates, one by one.
-fn pass_each(body: &[u64], trace: &mut Trace, run: &mut [Candidate])
-    requires stage { trace.old.stage ≡ Next }
-    requires more { length body.now < trace.old.vertices }
-    requires ascends { Ascends run.old }
-    requires within { trace.old.at ≤ length run.old }
-    ensures passes { (j : ℕ) (d : Candidate) → j < length run.old → Passes body.now (length body.now) trace.old (slice_index_or run.old j d) trace.new (slice_index_or run.new j d) }
-    ensures rest { map at_rest run.new ≡ map at_rest run.old }
-    ensures ascends { Ascends run.new }
-    ensures set { IsSet trace.new run.new }
-    ensures stage { trace.new.stage ≡ Next }
-{
-    for candidate in run.iter_mut() {
-        candidate.odd ^= trace.is_odd_past(body, candidate.point);
-    }
-    trace.skip(body);
-    trace.set(run);
-}
-
-/// Takes words of a body.
-fn pass_words(body: &[u64], trace: &mut Trace, run: &mut [Candidate])
-    requires stage { trace.old.stage ≡ Next }
-    requires more { length body.now < trace.old.vertices }
-    requires ascends { Ascends run.old }
-    requires set { IsSet trace.old run.old }
-    ensures passes { (j : ℕ) (d : Candidate) → j < length run.old → Passes body.now (length body.now) trace.old (slice_index_or run.old j d) trace.new (slice_index_or run.new j d) }
-    ensures rest { map at_rest run.new ≡ map at_rest run.old }
-    ensures ascends { Ascends run.new }
-    ensures set { IsSet trace.new run.new }
-    ensures stage { trace.new.stage ≡ Next }
-{
-    if run.len() <= FEW {
-        pass_each(body, trace, run);
-        return;
-    }
-    pass_all(body, trace, run);
 }
 
 /// Takes the vertices that stand in the row at hand, up to the last one of their ring, and says how many words it took.
@@ -108,7 +56,6 @@ fn pass<W: Words, L: Ledger>(
     first: u32,
     chain: &mut Chain,
     trace: &mut Trace,
-    buffer: &mut [u64; ROOM],
     run: &mut [Candidate],
     steps: &mut Steps<L>,
 ) -> u64
@@ -133,9 +80,7 @@ fn pass<W: Words, L: Ledger>(
     if count == 0 {
         return 0;
     }
-    let body = &mut buffer[..usize::from(count)];
-    read_row(words, chain.row, chain.place, body, steps);
-    pass_words(body, trace, run);
+    pass_row(words, chain.row, chain.place, count, trace, run, steps);
     chain.place += count;
     u64::from(count)
 }
@@ -146,7 +91,6 @@ pub(crate) fn sweep<W: Words, L: Ledger>(
     words: &mut W,
     row: u32,
     next: u32,
-    buffer: &mut [u64; ROOM],
     run: &mut [Candidate],
     reads: &mut u64,
     steps: &mut Steps<L>,
@@ -174,7 +118,7 @@ pub(crate) fn sweep<W: Words, L: Ledger>(
             *reads += k + chain.passed;
             return;
         }
-        k += pass(words, row, &mut chain, &mut trace, buffer, run, steps);
+        k += pass(words, row, &mut chain, &mut trace, run, steps);
     }
     // No body has more words.
     *reads += k + chain.passed;

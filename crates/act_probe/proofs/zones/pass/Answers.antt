@@ -1,4 +1,4 @@
-use Rattle.std.proofs.Common.{◌≡◌, ◌+◌, arith, get_or, length}
+use Rattle.std.proofs.Common.{◌≡◌, ◌+◌, arith, get_or}
 use Rattle.act_geom.specs.Inside.{is_inside}
 use Rattle.act_probe.specs.Sweeps.{walk_of}
 use Rattle.act_probe.proofs.ChainFacts.{going, held_here}
@@ -11,8 +11,8 @@ returns-then-count-eq0-clause-on g c = λ zones origin all k long on.
     let none : k ≡ k + 0 = omega arith in
     rw none at on
 
-pub read_row-requires-clause-held : goal.read_row-requires-clause-held
-read_row-requires-clause-held g c =
+pub pass_row-requires-clause-held : goal.pass_row-requires-clause-held
+pass_row-requires-clause-held g c =
     let r = c.requires.on in
     let zone = r.0 (get_or r.1 0 no_candidate).slot in
     let chain = r.2 0 no_candidate r.4 in
@@ -22,9 +22,8 @@ read_row-requires-clause-held g c =
     (omega (arith, c.if-count-eq0.false, c.min-count.ensures, c.from.ensures))
 
 pub returns-clause-on : goal.returns-clause-on
-returns-clause-on g c = λ zones origin all k same_long on.
-    let same : k + c.min-count.result ≡ k + c.from-3.result = omega (arith, c.from-3.ensures) in
-    let long : length c.read_row.new.body ≡ c.min-count.result = omega (arith, c.read_row.ensures.long, c.read_row.auto.body) in
-    let told = on_ahead (g.W.Words.image c.args.words.now) c.read_row.new.body c.args.first zones origin all c.args.chain.now c.args.trace.now c.pass_words.new.trace c.args.run.now c.pass_words.new.run k c.min-count.result
-    (omega (arith, c.min-count.ensures, c.from.ensures)) (λ i below. c.read_row.ensures.body i (omega arith)) on (λ j d within. rw long at (c.pass_words.ensures.passes j d (omega (arith, within, same_long)))) in
+returns-clause-on g c = λ zones origin all k long on.
+    let same : k + c.min-count.result ≡ k + c.from-2.result = omega (arith, c.from-2.ensures) in
+    let told = on_ahead (g.W.Words.image c.args.words.now) c.args.first zones origin all c.args.chain.now c.args.trace.now c.pass_row.new.trace c.args.run.now c.pass_row.new.run k c.min-count.result
+    (omega (arith, c.min-count.ensures, c.from.ensures)) on (λ j d within. c.pass_row.ensures.passes j d (omega (arith, within, long))) in
     rw same at told
