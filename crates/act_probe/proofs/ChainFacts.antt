@@ -1,5 +1,5 @@
 -- The rows and words of a zone's chain.
-use Rattle.std.proofs.Common.{◌≡◌, ℕ, suc, ◌+◌, ◌*◌, ◌/◌, ◌%◌, ◌^◌, ◌<◌, ◌≤◌, ◌⊎◌, inl, inr, refl, sym, ap, ◌∙◌, arith, Bool, List, [], ◌∷◌, length, drop, drop-cons}
+use Rattle.std.proofs.Common.{◌≡◌, ℕ, suc, ◌+◌, ◌*◌, ◌/◌, ◌%◌, ◌^◌, ◌<◌, ◌≤◌, ◌⊎◌, inl, inr, refl, sym, ap, ◌∙◌, subst, arith, Bool, List, [], ◌∷◌, length, drop, drop-cons}
 use Rattle.std.specs.Prelude.{slice_index}
 use Rattle.std.specs.List.{AllByRecursion as Each}
 use Rattle.std.proofs.lemmas.List.{get_or_past, drop_all}
@@ -51,7 +51,12 @@ first_key {x} c word is =
     let told = is ∙ ap (λ r. x.word r 0) (sym c.first) ∙ c.chain.first in
     omega (arith, told, small_row c 1)
 
--- the first row of a chain is one that a reference may name
+-- the first row of a chain is of the image, and one that a reference may name
+pub held_first : {x : Sight} {zone : Zone} {row : ℕ} → ChainAt x zone row → 0 < times x.rows row
+held_first {x} c =
+    let some : 0 < length c.rows = omega (arith, c.chain.size) in
+    subst (λ r. 0 < times x.rows r) c.first (c.held 0 some)
+
 pub row_fits : {x : Sight} {zone : Zone} {row : ℕ} → ChainAt x zone row → IsRow row
 row_fits c =
     let some : 0 < length c.rows = omega (arith, c.chain.size) in

@@ -15,6 +15,7 @@ pub mod RoomFacts
 pub mod MetFacts
 pub mod SumFacts
 pub mod GatherFacts
+pub mod NameFacts
 pub mod SettleFacts
 pub mod FinishFacts
 pub mod TraceFacts

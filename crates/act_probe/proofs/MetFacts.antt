@@ -1,20 +1,31 @@
 -- The zones that meet the leaf of a point.
-use Rattle.std.proofs.Common.{◌≡◌, ℕ, zero, suc, ◌+◌, ◌%◌, ◌^◌, ◌++◌, Bool, true, false, not, ◌&&◌, cond, refl, sym, ap, ◌∙◌, subst, arith, List, [], ◌∷◌, append_assoc, append-nil, drop, length, take}
+use Rattle.std.proofs.Common.{◌≡◌, ℕ, suc, ◌+◌, ◌/◌, ◌%◌, ◌^◌, ◌<◌, ◌++◌, Bool, true, false, not, ◌&&◌, cond, pos, refl, sym, ap, ◌∙◌, arith, List, [], ◌∷◌, append_assoc, append-nil, filter, length, map}
 use Rattle.std.specs.Prelude.{sum_by}
+use Rattle.std.specs.List.{All}
 use Rattle.std.proofs.lemmas.List.{map-append, length-map}
 use Rattle.std.proofs.lemmas.List.Elements.{All-append, All-cons, All-nil}
-use Rattle.std.proofs.lemmas.List.Sums.{sum_by-append}
+use Rattle.std.proofs.lemmas.List.Sums.{sum_by-cons}
 use Rattle.act_grid.specs.declared.layers.Layers.{Layers}
 use Rattle.act_grid.specs.declared.Point.{Point}
 use Rattle.act_grid.specs.Layers.{has_layer, layer_of}
+use Rattle.act_base.specs.Counting.{times}
 use Rattle.act_base.specs.Sight.{Sight}
 use Rattle.act_entry.specs.declared.reference.Ref.{Ref}
 use Rattle.act_super.specs.declared.entry.Zone.{Zone}
 use Rattle.act_probe.specs.declared.buffers.Found.{Found}
 use Rattle.act_probe.specs.Chains.{ChainAt, RefsOf, found_reads}
 use Rattle.act_probe.specs.Reads.{body_reads}
-use Rattle.act_probe.specs.Batches.{Holds, Met, candidate_of, candidates_from, met_by, mets_by, pair_of, test_reads}
-use Rattle.act_probe.proofs.RefFacts.{one_of, two_of}
+use Rattle.act_probe.specs.declared.buffers.Named.{Named}
+use Rattle.act_probe.specs.Batches.{Holds, Met, candidate_of, candidates_from, is_of, mets_by, pair_of, test_reads}
+use Rattle.act_probe.specs.Names.{headed, named_by, named_of}
+use Rattle.act_probe.proofs.ChainFacts.{first_key, held_first}
+
+-- what stands behind the last reference, and the last zone
+abbrev pub no_name : Named
+no_name = record { r = record { row = 0; hit = false }; head = 0; place = 0; point = record { x = pos 0; y = pos 0 } }
+
+abbrev pub no_met : Met
+no_met = record { place = 0; point = record { x = pos 0; y = pos 0 }; zone = record { key = 0; shape = [] }; row = 0; hit = false }
 
 -- the candidates of two lists
 pub candidates-append : (x : Sight) (i : ℕ) (ms ns : List Met) → candidates_from x i (ms ++ ns) ≡ candidates_from x i ms ++ candidates_from x (i + length ms) ns
@@ -40,81 +51,59 @@ held_more x old new mets m h chain hits kept candidates = record {
 }
 
 -- a reference was taken
-module _ (x : Sight) (layers : Layers) (place : ℕ) (p : Point) (r : Ref) (zone : Zone) (old new : Found) (mets : List Met) where
-  pub left_out : has_layer layers (layer_of zone.key) ≡ false → Holds x new mets → Holds x new (mets ++ met_by layers place p r zone)
-  left_out has holds = rw (has, append-nil) holds
+module _ (x : Sight) (layers : Layers) (n : Named) (m : Met) (old new : Found) (mets : List Met) (is : n ≡ named_of x m) (chain : ChainAt x m.zone m.row) where
+  key_is : n.head / 2 ^ 32 ≡ m.zone.key
+  key_is = ap (λ (k : Named). k.head / 2 ^ 32) is ∙ first_key chain (x.word m.row 0) refl
 
-  pub put_in : has_layer layers (layer_of zone.key) ≡ true → Holds x old mets → ChainAt x zone r.row → new.hits.items ≡ old.hits.items ++ record { point = place; key = zone.key } ∷ []
-      → new.kept.items ≡ old.kept.items ++ r.hit ∷ []
-      → new.candidates.items ≡ old.candidates.items ++ cond r.hit [] (record { row = r.row; next = x.word r.row 0 % 2 ^ 32; slot = length old.hits.items; point = p; odd = false } ∷ [])
-      → Holds x new (mets ++ met_by layers place p r zone)
-  put_in has holds chain hits kept candidates =
-      rw has (held_more x old new mets (record { place = place; point = p; zone = zone; row = r.row; hit = r.hit }) holds chain hits kept candidates)
+  pub left_out : has_layer layers (layer_of (n.head / 2 ^ 32)) ≡ false → Holds x new mets → Holds x new (mets ++ filter (is_of layers) (m ∷ []))
+  left_out has holds = rw (rw key_is at has, append-nil) holds
 
--- one reference or two were taken, each with its zone
-module _ (x : Sight) (layers : Layers) (place : ℕ) (p : Point) (hit : Zone → Bool) (zones : List Zone) (a b : Ref) (old mid new : Found) (mets : List Met) where
-  pub one_met : RefsOf x hit zones (a ∷ []) → Holds x old mets
-      → ((zone : Zone) (mets : List Met) → ChainAt x zone a.row → Holds x old mets → Holds x new (mets ++ met_by layers place p a zone))
-      → Holds x new (mets ++ mets_by layers place p zones (a ∷ []))
-  one_met refs holds step =
-      let o = one_of x hit zones a refs in
-      subst (λ (ms : List Met). Holds x new (mets ++ ms)) (sym (append-nil (met_by layers place p a o.first)) ∙ ap (λ (zs : List Zone). mets_by layers place p zs (a ∷ [])) (sym o.are))
-      (step o.first mets o.chain holds)
-
-  pub two_met : RefsOf x hit zones (a ∷ b ∷ []) → Holds x old mets
-      → ((zone : Zone) (mets : List Met) → ChainAt x zone a.row → Holds x old mets → Holds x mid (mets ++ met_by layers place p a zone))
-      → ((zone : Zone) (mets : List Met) → ChainAt x zone b.row → Holds x mid mets → Holds x new (mets ++ met_by layers place p b zone))
-      → Holds x new (mets ++ mets_by layers place p zones (a ∷ b ∷ []))
-  two_met refs holds step step_next =
-      let o = two_of x hit zones a b refs in
-      let both = step_next o.second (mets ++ met_by layers place p a o.first) o.next (step o.first mets o.chain holds) in
-      subst (Holds x new) (
-      append_assoc mets (met_by layers place p a o.first) (met_by layers place p b o.second)
-      ∙ ap (λ (ms : List Met). mets ++ (met_by layers place p a o.first ++ ms)) (sym (append-nil (met_by layers place p b o.second)))
-      ∙ ap (λ (zs : List Zone). mets ++ mets_by layers place p zs (a ∷ b ∷ [])) (sym o.are)) both
-
--- there was none to be taken
-pub nothing_met : (x : Sight) (layers : Layers) (place : ℕ) (p : Point) (hit : Zone → Bool) (zones : List Zone) (refs : List Ref) (found : Found) (mets : List Met) → RefsOf x hit zones refs → refs ≡ []
-    → Holds x found mets → Holds x found (mets ++ mets_by layers place p zones refs)
-nothing_met x layers place p hit [] [] found mets h none holds = subst (Holds x found) (sym (append-nil mets)) holds
-nothing_met x layers place p hit [] (r ∷ refs) found mets h none holds = absurd h
-nothing_met x layers place p hit (z ∷ zones) [] found mets h none holds = absurd h
-nothing_met x layers place p hit (z ∷ zones) (r ∷ refs) found mets h none holds = absurd (cc)
-
--- the words that are read are of no account
-pub read_more : (x : Sight) (found : Found) (mets : List Met) (reads : ℕ) → Holds x found mets → Holds x (record found { reads = reads }) mets
-read_more x found mets reads holds = record { hits = holds.hits; kept = holds.kept; candidates = holds.candidates; chains = holds.chains }
-
--- the references before a place, and some after it
-module _ (x : Sight) (layers : Layers) (place : ℕ) (p : Point) (hit : Zone → Bool) where
-  none_by : (m : ℕ) → mets_by layers place p (take m []) (take m []) ≡ []
-  none_by zero = refl
-  none_by (suc m) = refl
-
-  pub mets_more : (zones : List Zone) (refs : List Ref) (n m k : ℕ) → k ≡ n + m → RefsOf x hit zones refs
-      → mets_by layers place p (take k zones) (take k refs) ≡ mets_by layers place p (take n zones) (take n refs) ++ mets_by layers place p (take m (drop n zones)) (take m (drop n refs))
-  mets_more zones refs zero m k e h = let same : k ≡ m = omega (arith, e) in ap (λ i. mets_by layers place p (take i zones) (take i refs)) same
-  mets_more zones refs (suc n) m zero e h = absurd (omega (arith, e))
-  mets_more [] [] (suc n) m (suc k) e h = sym (none_by m)
-  mets_more [] (r ∷ refs) (suc n) m (suc k) e h = absurd h
-  mets_more (z ∷ zones) [] (suc n) m (suc k) e h = absurd h
-  mets_more (z ∷ zones) (r ∷ refs) (suc n) m (suc k) e h =
-      let fewer : k ≡ n + m = omega (arith, e) in
-      ap (λ ms. met_by layers place p r z ++ ms) (mets_more zones refs n m k fewer h.2)
-      ∙ sym (append_assoc (met_by layers place p r z) (mets_by layers place p (take n zones) (take n refs)) (mets_by layers place p (take m (drop n zones)) (take m (drop n refs))))
+  pub put_in : has_layer layers (layer_of (n.head / 2 ^ 32)) ≡ true → Holds x old mets
+      → new.hits.items ≡ old.hits.items ++ record { point = n.place; key = n.head / 2 ^ 32 } ∷ []
+      → new.kept.items ≡ old.kept.items ++ n.r.hit ∷ []
+      → new.candidates.items ≡ old.candidates.items ++ cond n.r.hit [] (record { row = n.r.row; next = n.head % 2 ^ 32; slot = length old.hits.items; point = n.point; odd = false } ∷ [])
+      → Holds x new (mets ++ filter (is_of layers) (m ∷ []))
+  put_in has holds hits kept candidates =
+      rw (rw key_is at has) (held_more x old new mets m holds chain (rw (key_is, is) at hits) (rw is at kept) (rw is at candidates))
 
 -- the words of the references, and of those to be tested
 pub words_are : (x : Sight) (layers : Layers) (place : ℕ) (p : Point) (hit : Zone → Bool) (zones : List Zone) (refs : List Ref) → RefsOf x hit zones refs
-    → length refs + sum_by test_reads (mets_by layers place p zones refs) ≡ found_reads layers hit zones
+    → length refs + sum_by test_reads (filter (is_of layers) (mets_by place p zones refs)) ≡ found_reads layers hit zones
 words_are x layers place p hit [] [] h = refl
 words_are x layers place p hit [] (r ∷ refs) h = absurd h
 words_are x layers place p hit (z ∷ zones) [] h = absurd h
 words_are x layers place p hit (z ∷ zones) (r ∷ refs) h =
     let rest = words_are x layers place p hit zones refs h.2 in
-    let parts = sum_by-append test_reads (met_by layers place p r z) (mets_by layers place p zones refs) in
-    omega (arith, rest, parts, one (has_layer layers (layer_of z.key)) r.hit, ap (λ b. cond (has_layer layers (layer_of z.key) && not b) (body_reads z) 0) h.1)
+    omega (
+      arith,
+      rest,
+      one (has_layer layers (layer_of z.key)) r.hit (filter (is_of layers) (mets_by place p zones refs)),
+      ap (λ b. cond (has_layer layers (layer_of z.key) && not b) (body_reads z) 0) h.1,
+    )
   where
-    one : (has b : Bool) → sum_by test_reads (cond has (record { place = place; point = p; zone = z; row = r.row; hit = b } ∷ []) []) ≡ cond (has && not b) (body_reads z) 0
-    one true true = refl
-    one true false = omega arith
-    one false b = refl
+    one : (has b : Bool) (ms : List Met) → sum_by test_reads (cond has (record { place = place; point = p; zone = z; row = r.row; hit = b } ∷ ms) ms) ≡ cond (has && not b) (body_reads z) 0 + sum_by test_reads ms
+    one true true ms = sum_by-cons test_reads (record { place = place; point = p; zone = z; row = r.row; hit = true }) ms
+    one true false ms = sum_by-cons test_reads (record { place = place; point = p; zone = z; row = r.row; hit = false }) ms
+    one false b ms = omega arith
+
+-- ---- the references of a leaf, with their zones
+module _ (x : Sight) (place : ℕ) (p : Point) (hit : Zone → Bool) where
+  pub names_here : (zones : List Zone) (refs : List Ref) → RefsOf x hit zones refs → map (headed x) (map (named_by place p) refs) ≡ map (named_of x) (mets_by place p zones refs)
+  names_here [] [] h = refl
+  names_here [] (r ∷ refs) h = absurd h
+  names_here (z ∷ zones) [] h = absurd h
+  names_here (z ∷ zones) (r ∷ refs) h = ap (λ (ns : List Named). headed x (named_by place p r) ∷ ns) (names_here zones refs h.2)
+
+  pub chains_here : (zones : List Zone) (refs : List Ref) → RefsOf x hit zones refs → All (λ (m : Met). ChainAt x m.zone m.row) (mets_by place p zones refs)
+  chains_here [] [] h = All-nil (λ (m : Met). ChainAt x m.zone m.row)
+  chains_here [] (r ∷ refs) h = absurd h
+  chains_here (z ∷ zones) [] h = absurd h
+  chains_here (z ∷ zones) (r ∷ refs) h =
+      All-cons (λ (m : Met). ChainAt x m.zone m.row) (record { place = place; point = p; zone = z; row = r.row; hit = r.hit }) (mets_by place p zones refs) h.0 (chains_here zones refs h.2)
+
+  pub held_here : (zones : List Zone) (refs : List Ref) → RefsOf x hit zones refs → All (λ (n : Named). 0 < times x.rows n.r.row) (map (named_by place p) refs)
+  held_here [] [] h = All-nil (λ (n : Named). 0 < times x.rows n.r.row)
+  held_here [] (r ∷ refs) h = absurd h
+  held_here (z ∷ zones) [] h = absurd h
+  held_here (z ∷ zones) (r ∷ refs) h =
+      All-cons (λ (n : Named). 0 < times x.rows n.r.row) (named_by place p r) (map (named_by place p) refs) (held_first h.0) (held_here zones refs h.2)

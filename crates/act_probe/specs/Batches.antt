@@ -45,14 +45,15 @@ pair_of m = record { point = m.place; key = m.zone.key }
 abbrev pub test_reads : Met → ℕ
 test_reads m = cond m.hit 0 (body_reads m.zone)
 
--- the zones of the layers among those of the references of a leaf
-abbrev pub met_by : Layers → ℕ → Point → Ref → Zone → List Met
-met_by layers place p r zone = cond (has_layer layers (layer_of zone.key)) (record { place = place; point = p; zone = zone; row = r.row; hit = r.hit } ∷ []) []
+-- the zone is of the layers
+abbrev pub is_of : Layers → Met → Bool
+is_of layers m = has_layer layers (layer_of m.zone.key)
 
-abbrev pub mets_by : Layers → ℕ → Point → List Zone → List Ref → List Met
-mets_by layers place p [] refs = []
-mets_by layers place p (zone ∷ zones) [] = []
-mets_by layers place p (zone ∷ zones) (r ∷ refs) = met_by layers place p r zone ++ mets_by layers place p zones refs
+-- the zones of the references of a leaf
+abbrev pub mets_by : ℕ → Point → List Zone → List Ref → List Met
+mets_by place p [] refs = []
+mets_by place p (zone ∷ zones) [] = []
+mets_by place p (zone ∷ zones) (r ∷ refs) = record { place = place; point = p; zone = zone; row = r.row; hit = r.hit } ∷ mets_by place p zones refs
 
 -- the candidates among them, by their slots from i on
 abbrev pub candidate_of : Sight → ℕ → Met → Candidate
@@ -84,12 +85,12 @@ pub record Holds (x : Sight) (found : Found) (mets : List Met) : Type 0 where
   pub candidates : found.candidates.items ≡ candidates_from x 0 mets
   pub chains : All (λ (m : Met). ChainAt x m.zone m.row) mets
 
--- what was found for the points, tests aside: some words that were read belong to points to come
-pub record Gathers (x : Sight) (settings : Settings) (state : State) (layers : Layers) (points : List Point) (ahead : ℕ) (found : Found) : Type 0 where
+-- what was found for the points, tests aside
+pub record Gathers (x : Sight) (settings : Settings) (state : State) (layers : Layers) (points : List Point) (found : Found) : Type 0 where
   pub mets : List Met
   pub holds : Holds x found mets
   pub are : map (λ (m : Met). hit_of (pair_of m)) (filter is_held mets) ≡ join layers state.zones points
-  pub few : found.reads + sum_by test_reads mets ≤ ahead + sum_by (λ p. reads_of settings state p layers) points
+  pub few : found.reads + sum_by test_reads mets ≤ sum_by (λ p. reads_of settings state p layers) points
 
 -- ---- candidates
 -- a candidate of this zone, which isn't tested yet

@@ -3,6 +3,7 @@ pub mod Chains
 pub mod Ways
 pub mod Groups
 pub mod Batches
+pub mod Names
 pub mod Sweeps
 pub mod Passes
 pub mod Orders

@@ -1,6 +1,6 @@
 //! The pairs of a batch of points with the zones that hold them.
 
-ghost use Rattle.std.specs.Prelude.{◌≡◌, ℕ, ◌+◌, ◌*◌, ◌<◌, ◌≤◌, ◌^◌, ◌++◌, ◌∷◌, [], All, IfOk, List, OnOk, length, map, sum_by};
+ghost use Rattle.std.specs.Prelude.{◌≡◌, ℕ, ◌+◌, ◌*◌, ◌<◌, ◌≤◌, ◌^◌, ◌++◌, ◌∷◌, [], All, IfOk, List, OnOk, length, map, sum_by, vec_capacity};
 ghost use Rattle.act_grid.specs.declared.Point.{Point};
 ghost use Rattle.act_grid.specs.declared.Settings.{Settings};
 ghost use Rattle.act_super.specs.declared.entry.State.{State};
@@ -8,13 +8,15 @@ ghost use Rattle.act_super.specs.Joins.{join};
 ghost use Rattle.act_super.specs.Stands.{Stands};
 ghost use Rattle.act_probe.specs.Reads.{reads_of};
 ghost use Rattle.act_probe.specs.Groups.{IsDown};
-ghost use Rattle.act_probe.specs.Batches.{Gathers, Grows, HasRoom, hits_in};
+ghost use Rattle.act_probe.specs.Batches.{Gathers, HasRoom, hits_in};
+ghost use Rattle.act_probe.specs.Names.{leaf_reads, named_at, named_from};
 
-use crate::buffers::{Buffers, Found};
+use crate::buffers::{Buffers, Found, Named};
 use crate::descent::entry_in;
 use crate::group::{Way, descend_all};
 use crate::keys::MOST_KEYS;
-use crate::meet::meet_entry;
+use crate::meet::{meet_all, read_heads};
+use crate::names::put_entry;
 use crate::settle::finish;
 use crate::words::Words;
 use act_base::Steps;
@@ -24,78 +26,76 @@ use std::sync::ledger::Ledger;
 /// The points that go down together: enough that their loads overlap.
 const GROUP: usize = 64;
 
-/// Takes the references of the leaf that a way has reached.
+/// Puts the references of the leaf that a way has reached.
 #[inline]
-fn meet_way<W: Words, L: Ledger>(
+fn name_way<W: Words, L: Ledger>(
     words: &mut W,
     way: &Way,
     place: u32,
-    layers: &Layers,
-    found: &mut Found,
+    named: &mut Vec<Named>,
+    reads: &mut u64,
     steps: &mut Steps<L>,
 )
     requires down { (root : ℕ) × (settings : Settings) × (state : State) × (s : Stands settings (W.image words.old) root state)
         × IsDown settings state s.layout way.now }
-    requires room { length found.old.hits.items < 2 ^ 31 }
-    requires space { HasRoom found.old 510 }
-    requires few { found.old.reads < 2 ^ 59 }
+    requires space { length named.old.items + 510 ≤ vec_capacity named.old }
+    requires few { reads.old < 2 ^ 60 }
     ensures same { words.new ≡ words.old }
-    ensures ok { (root : ℕ) (settings : Settings) (state : State) (s : Stands settings (W.image words.old) root state) (points : List Point) (ahead : ℕ)
-        → IsDown settings state s.layout way.now → length points ≡ place
-        → Gathers (W.image words.old) settings state layers.now points (way.now.nodes + ahead) found.old
-        → Gathers (W.image words.old) settings state layers.now (points ++ way.now.point ∷ []) ahead found.new }
+    ensures named { (root : ℕ) (settings : Settings) (state : State) (s : Stands settings (W.image words.old) root state)
+        → IsDown settings state s.layout way.now → named.new.items ≡ named.old.items ++ named_at s.layout settings state place way.now.point }
     ensures few { (root : ℕ) (settings : Settings) (state : State) (s : Stands settings (W.image words.old) root state)
-        → IsDown settings state s.layout way.now → found.new.reads + way.now.nodes ≤ found.old.reads + reads_of settings state way.now.point layers.now }
-    ensures ticks { steps.new + found.old.reads ≡ steps.old + found.new.reads }
-    ensures grows { Grows found.old found.new 510 }
-    ensures bound { found.new.reads ≤ found.old.reads + 766 }
+        → IsDown settings state s.layout way.now → reads.new + way.now.nodes ≤ reads.old + leaf_reads settings state way.now.point }
+    ensures ticks { steps.new + reads.old ≡ steps.old + reads.new }
+    ensures space { vec_capacity named.new ≡ vec_capacity named.old }
+    ensures long { length named.new.items ≤ length named.old.items + 510 }
+    ensures bound { reads.new ≤ reads.old + 256 }
 {
     let entry = entry_in(way.word);
-    meet_entry(words, entry, place, way.point, layers, found, steps);
+    put_entry(words, entry, place, way.point, named, reads, steps);
 }
 
-/// Takes the references of the leaves that the ways of a group have reached.
-fn meet_ways<W: Words, L: Ledger>(
+/// Puts the references of the leaves that the ways of a group have reached.
+fn name_ways<W: Words, L: Ledger>(
     words: &mut W,
     first: u32,
     ways: &[Way],
-    layers: &Layers,
-    found: &mut Found,
+    named: &mut Vec<Named>,
+    reads: &mut u64,
     steps: &mut Steps<L>,
 )
     requires down { (root : ℕ) × (settings : Settings) × (state : State) × (s : Stands settings (W.image words.old) root state)
         × All (IsDown settings state s.layout) ways.now }
     requires places { first + length ways.now ≤ 8192 }
-    requires room { length found.old.hits.items + 510 * length ways.now < 2 ^ 31 }
-    requires space { HasRoom found.old (510 * length ways.now) }
-    requires few { found.old.reads + 766 * length ways.now < 2 ^ 59 }
+    requires space { length named.old.items + 510 * length ways.now ≤ vec_capacity named.old }
+    requires few { reads.old + 256 * length ways.now < 2 ^ 60 }
     ensures same { words.new ≡ words.old }
-    ensures ok { (root : ℕ) (settings : Settings) (state : State) (s : Stands settings (W.image words.old) root state) (points : List Point)
-        → All (IsDown settings state s.layout) ways.now → length points ≡ first
-        → Gathers (W.image words.old) settings state layers.now points (sum_by (λ way. way.nodes) ways.now) found.old
-        → Gathers (W.image words.old) settings state layers.now (points ++ map (λ way. way.point) ways.now) 0 found.new }
-    ensures few { (root : ℕ) (settings : Settings) (state : State) (s : Stands settings (W.image words.old) root state)
-        → All (IsDown settings state s.layout) ways.now
-        → found.new.reads + sum_by (λ way. way.nodes) ways.now ≤ found.old.reads + sum_by (λ p. reads_of settings state p layers.now) (map (λ way. way.point) ways.now) }
-    ensures ticks { steps.new + found.old.reads ≡ steps.old + found.new.reads }
-    ensures grows { Grows found.old found.new (510 * length ways.now) }
-    ensures bound { found.new.reads ≤ found.old.reads + 766 * length ways.now }
+    ensures named { (root : ℕ) (settings : Settings) (state : State) (s : Stands settings (W.image words.old) root state) → All (IsDown settings state s.layout) ways.now
+        → named.new.items ≡ named.old.items ++ named_from s.layout settings state first (map (λ way. way.point) ways.now) }
+    ensures few { (root : ℕ) (settings : Settings) (state : State) (s : Stands settings (W.image words.old) root state) → All (IsDown settings state s.layout) ways.now
+        → reads.new + sum_by (λ way. way.nodes) ways.now ≤ reads.old + sum_by (leaf_reads settings state) (map (λ way. way.point) ways.now) }
+    ensures ticks { steps.new + reads.old ≡ steps.old + reads.new }
+    ensures long { length named.new.items ≤ length named.old.items + 510 * length ways.now }
+    ensures bound { reads.new ≤ reads.old + 256 * length ways.now }
 {
     for (i, way) in ways.iter().enumerate() {
-        meet_way(words, way, first + i as u32, layers, found, steps);
+        name_way(words, way, first + i as u32, named, reads, steps);
     }
 }
 
-/// Makes room for all that so many points can add.
-fn reserve_for(found: &mut Found, count: usize) -> Result<(), NoMemory>
+/// Makes room for all that so many points can add, and lets go of the references of the last group.
+fn reserve_for(found: &mut Found, named: &mut Vec<Named>, count: usize) -> Result<(), NoMemory>
     requires few { count ≤ 8192 }
     ensures hits { found.new.hits.items ≡ found.old.hits.items }
     ensures kept { found.new.kept.items ≡ found.old.kept.items }
     ensures candidates { found.new.candidates.items ≡ found.old.candidates.items }
     ensures reads { found.new.reads ≡ found.old.reads }
     ensures space { OnOk result (HasRoom found.new (510 * count)) }
+    ensures named { OnOk result (named.new.items ≡ []) }
+    ensures named_space { OnOk result (510 * count ≤ vec_capacity named.new) }
 {
     let most = MOST_KEYS * count;
+    named.clear();
+    named.reserve(most)?;
     found.hits.reserve(most)?;
     found.kept.reserve(most)?;
     found.candidates.reserve(most)?;
@@ -118,15 +118,15 @@ fn meet_group<W: Words, L: Ledger>(
     requires few { buffers.old.found.reads + 781 * length points.now < 2 ^ 59 }
     ensures same { words.new ≡ words.old }
     ensures ok { OnOk result ((settings : Settings) (state : State) → Stands settings (W.image words.old) root state → (before : List Point) → length before ≡ first
-        → Gathers (W.image words.old) settings state layers.now before 0 buffers.old.found
-        → Gathers (W.image words.old) settings state layers.now (before ++ points.now) 0 buffers.new.found) }
+        → Gathers (W.image words.old) settings state layers.now before buffers.old.found
+        → Gathers (W.image words.old) settings state layers.now (before ++ points.now) buffers.new.found) }
     ensures few { (settings : Settings) (state : State) → Stands settings (W.image words.old) root state
         → buffers.new.found.reads ≤ buffers.old.found.reads + sum_by (λ p. reads_of settings state p layers.now) points.now }
     ensures ticks { steps.new + buffers.old.found.reads ≡ steps.old + buffers.new.found.reads }
     ensures room { OnOk result (length buffers.new.found.hits.items ≤ length buffers.old.found.hits.items + 510 * length points.now) }
     ensures bound { buffers.new.found.reads ≤ buffers.old.found.reads + 780 * length points.now }
 {
-    reserve_for(&mut buffers.found, points.len())?;
+    reserve_for(&mut buffers.found, &mut buffers.named, points.len())?;
     descend_all(
         words,
         root,
@@ -135,14 +135,17 @@ fn meet_group<W: Words, L: Ledger>(
         &mut buffers.found.reads,
         steps,
     )?;
-    meet_ways(
+    name_ways(
         words,
         first,
         &buffers.ways,
-        layers,
-        &mut buffers.found,
+        &mut buffers.named,
+        &mut buffers.found.reads,
         steps,
     );
+    read_heads(words, &mut buffers.named, steps);
+    buffers.found.reads += buffers.named.len() as u64;
+    meet_all(&buffers.named, layers, &mut buffers.found);
     Ok(())
 }
 
@@ -172,7 +175,7 @@ fn gather<W: Words, L: Ledger>(
     requires places { length points.now ≤ 8192 }
     ensures same { words.new ≡ words.old }
     ensures ok { OnOk result ((settings : Settings) (state : State) → Stands settings (W.image words.old) root state
-        → Gathers (W.image words.old) settings state layers.now points.now 0 buffers.new.found) }
+        → Gathers (W.image words.old) settings state layers.now points.now buffers.new.found) }
     ensures few { (settings : Settings) (state : State) → Stands settings (W.image words.old) root state
         → buffers.new.found.reads ≤ sum_by (λ p. reads_of settings state p layers.now) points.now }
     ensures ticks { steps.new ≡ steps.old + buffers.new.found.reads }

@@ -3,6 +3,7 @@
 ghost use Rattle.std.specs.Prelude.{◌≡◌, []};
 
 use crate::group::Way;
+use act_entry::Ref;
 use act_grid::Point;
 use std::alloc::Global;
 
@@ -26,6 +27,17 @@ pub(crate) struct Candidate {
     pub odd: bool,
 }
 
+/// A reference of the leaf of a point.
+#[derive(Clone, Copy, Debug, PartialEq, Eq)]
+pub(crate) struct Named {
+    pub r: Ref,
+    /// The first word of the zone's chain, once it was read.
+    pub head: u64,
+    /// The place of the point in its batch.
+    pub place: u32,
+    pub point: Point,
+}
+
 /// The pairs of points with the zones that meet their leaves.
 #[derive(Drop)]
 pub(crate) struct Found {
@@ -45,6 +57,7 @@ pub(crate) struct Found {
 #[derive(Drop)]
 pub struct Buffers {
     pub(crate) ways: Vec<Way>,
+    pub(crate) named: Vec<Named>,
     pub(crate) found: Found,
 }
 
@@ -65,6 +78,7 @@ impl Buffers {
         };
         Buffers {
             ways: Vec::new(alloc),
+            named: Vec::new(alloc),
             found,
         }
     }

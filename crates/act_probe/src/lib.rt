@@ -24,6 +24,7 @@ mod group;
 mod keys;
 mod list;
 mod meet;
+mod names;
 mod order;
 mod point;
 mod refs;

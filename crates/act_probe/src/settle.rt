@@ -124,13 +124,13 @@ pub(crate) fn finish<W: Words, L: Ledger>(
     found: &mut Found,
     steps: &mut Steps<L>,
 ) -> Result<(), NoMemory>
-    requires gathers { (settings : Settings) × (state : State) × (layers : Layers) × (points : List Point) × Gathers (W.image words.old) settings state layers points 0 found.old }
+    requires gathers { (settings : Settings) × (state : State) × (layers : Layers) × (points : List Point) × Gathers (W.image words.old) settings state layers points found.old }
     requires room { length found.old.hits.items ≤ 2 ^ 23 }
     requires few { found.old.reads ≤ 2 ^ 23 }
     ensures same { words.new ≡ words.old }
-    ensures hits { OnOk result ((settings : Settings) (state : State) (layers : Layers) (points : List Point) → Gathers (W.image words.old) settings state layers points 0 found.old
+    ensures hits { OnOk result ((settings : Settings) (state : State) (layers : Layers) (points : List Point) → Gathers (W.image words.old) settings state layers points found.old
         → map hit_of found.new.hits.items ≡ join layers state.zones points) }
-    ensures few { (settings : Settings) (state : State) (layers : Layers) (points : List Point) → Gathers (W.image words.old) settings state layers points 0 found.old
+    ensures few { (settings : Settings) (state : State) (layers : Layers) (points : List Point) → Gathers (W.image words.old) settings state layers points found.old
         → found.new.reads ≤ sum_by (λ p. reads_of settings state p layers) points }
     ensures room { length found.new.hits.items ≤ length found.old.hits.items }
     ensures ticks { steps.new + found.old.reads ≡ steps.old + found.new.reads }

@@ -16,5 +16,5 @@ invariant-loop-k g l = record {
   few : (settings : Settings) (state : State) → Stands settings (g.W.Words.image l.fn.words) l.fn.root state
       → l.buffers.found.reads ≤ sum_by (λ p. reads_of settings state p l.layers) (take (l.k * 64) l.points);
   at : (settings : Settings) (state : State) → Stands settings (g.W.Words.image l.fn.words) l.fn.root state
-      → Gathers (g.W.Words.image l.fn.words) settings state l.layers (take (l.k * 64) l.points) 0 l.buffers.found;
+      → Gathers (g.W.Words.image l.fn.words) settings state l.layers (take (l.k * 64) l.points) l.buffers.found;
 }
